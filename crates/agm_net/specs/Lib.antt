@@ -1,0 +1,10 @@
+pub mod Formula
+pub mod Plain
+pub mod WellFormed
+pub mod Trace
+pub mod Loop
+pub mod Secret
+pub mod Role
+pub mod View
+pub mod Writable
+pub mod Simple

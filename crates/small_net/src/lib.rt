@@ -1,0 +1,6 @@
+//! Small texts as nets: reading those of the first form, and writing.
+#![tactic(auto)]
+
+mod original;
+
+pub use original::Original;
