@@ -1,4 +1,4 @@
-ghost use Rattle.std.specs.Prelude.{◌≡◌, [], ◌∷◌, ◌++◌, length, OnOk, OnErr, IfOk};
+ghost use Rattle.std.specs.Prelude.{◌≡◌, ◌↔◌, [], ◌∷◌, ◌++◌, length, IsTrue, OnOk, OnErr, IfOk};
 ghost use Rattle.agm_bits.specs.Lent.{rewritten};
 ghost use Rattle.std.specs.Borrow.{Lends, sem, Array};
 ghost use Rattle.agm_bits.specs.contracts.list.List.{the_row};
@@ -6,7 +6,7 @@ ghost use Rattle.agm_bits.specs.contracts.list.List.{the_row};
 use std::alloc::{AllocError, AllocFailed, Global};
 use std::marker::Model;
 
-/// Want of memory.
+/// Want of memory: something couldn't grow.
 #[derive(Clone, Copy, Debug, PartialEq, Eq)]
 pub struct Memory;
 
@@ -22,7 +22,8 @@ impl<T: Drop> From<AllocFailed<T>> for Memory {
     }
 }
 
-/// A list over a `Vec`, which contracts see as its items.
+/// Items in order. Contracts see a list, without a capacity or a pointer. It keeps the allocator
+/// that it was made with.
 #[derive(Debug, Drop)]
 pub struct List<T> {
     items: Vec<T>,
@@ -39,10 +40,11 @@ impl<T> Model for List<T> {
     ghost view = { λ it. it.items.items };
 }
 
-/// A list of bytes.
+/// A name, as its bytes.
 pub type Name = List<u8>;
 
 impl<T> List<T> {
+    /// The empty list. It takes no memory.
     pub fn new(alloc: Global) -> List<T>
         ensures { result ≡ [] }
     {
@@ -51,12 +53,14 @@ impl<T> List<T> {
         }
     }
 
+    /// The items of a vector, which aren't copied.
     pub fn from_vec(items: Vec<T>) -> List<T>
         ensures { result ≡ items.items }
     {
         List { items }
     }
 
+    /// The vector of the items, which aren't copied.
     pub fn into_vec(self) -> Vec<T>
         ensures { result.items ≡ self }
     {
@@ -64,12 +68,21 @@ impl<T> List<T> {
         items
     }
 
+    /// The number of items.
     pub fn len(&self) -> usize
         ensures { result ≡ length self.now }
     {
         self.items.len()
     }
 
+    /// Whether there is no item.
+    pub fn is_empty(&self) -> bool
+        ensures { IsTrue result ↔ (length self.now ≡ 0) }
+    {
+        self.items.is_empty()
+    }
+
+    /// The items as a slice.
     pub fn as_slice(&self) -> &[T]
         ensures { result.now ≡ self.now }
     {
@@ -78,7 +91,7 @@ impl<T> List<T> {
 }
 
 impl<T> List<T> {
-    /// Lends the items for writing.
+    /// Lends all the items for writing. Their number stays.
     pub fn as_mut_slice(&mut self) -> &mut [T]
         ensures* lends { sem 𝓛 (Lends (the_row T.row) (Array T.row 0) self.entry result (rewritten self.entry.now)) }
         ensures value { result.now ≡ self.old }
@@ -88,6 +101,7 @@ impl<T> List<T> {
 }
 
 impl<T: Copy> List<T> {
+    /// A copy of the items.
     pub fn from_slice(alloc: Global, items: &[T]) -> Result<List<T>, Memory>
         ensures { IfOk result (λ it. it ≡ items.now) }
     {
@@ -95,6 +109,7 @@ impl<T: Copy> List<T> {
         Ok(List { items })
     }
 
+    /// Adds copies of the items at the end. After `Memory` the list is as it was.
     pub fn extend(&mut self, items: &[T]) -> Result<(), Memory>
         ensures ok { OnOk result (self.new ≡ self.old ++ items.now) }
         ensures err { OnErr result (self.new ≡ self.old) }
@@ -105,20 +120,40 @@ impl<T: Copy> List<T> {
 }
 
 impl<T: Drop> List<T> {
-    /// Puts an item in front.
-    pub fn put_first(&mut self, item: T) -> Result<(), Memory>
-        ensures ok { OnOk result (self.new ≡ item ∷ self.old) }
-        ensures err { OnErr result (self.new ≡ self.old) }
-    {
-        self.items.insert(0, item)?;
-        Ok(())
-    }
-
+    /// Adds an item at the end. After `Memory` the list is as it was, and the item is dropped.
     pub fn push(&mut self, item: T) -> Result<(), Memory>
         ensures ok { OnOk result (self.new ≡ self.old ++ item ∷ []) }
         ensures err { OnErr result (self.new ≡ self.old) }
     {
         self.items.push(item)?;
+        Ok(())
+    }
+}
+
+#[cfg(test)]
+mod tests {
+    use super::*;
+
+    #[test]
+    fn a_list_is_built_and_read(rt: HostRuntime) -> Result<(), Memory> {
+        let mut list = List::new(rt.alloc());
+        assert!(rt; list.is_empty());
+        list.push(3u8)?;
+        list.extend(&[5, 8])?;
+        assert!(rt; !list.is_empty());
+        assert_eq!(rt; list.len(), 3);
+        assert_eq!(rt; list.as_slice(), [3, 5, 8].as_slice());
+        list.as_mut_slice()[1] = 13;
+        assert_eq!(rt; list.into_vec().as_slice(), [3, 13, 8].as_slice());
+        Ok(())
+    }
+
+    #[test]
+    fn a_list_takes_a_slice_or_a_vector(rt: HostRuntime) -> Result<(), Memory> {
+        let name = Name::from_slice(rt.alloc(), b"clk")?;
+        assert_eq!(rt; name.as_slice(), b"clk".as_slice());
+        let ports = List::from_vec(vec![in rt.alloc(); 2u32, 7]?);
+        assert_eq!(rt; ports.as_slice(), [2, 7].as_slice());
         Ok(())
     }
 }

@@ -2,7 +2,7 @@ ghost use Rattle.std.specs.Prelude.{◌≡◌, All, length};
 
 use crate::{BitRow, List};
 
-/// Rows of one width.
+/// Rows of bits, one for each cycle, each of which is `width` bits long.
 #[derive(Debug, Drop)]
 pub struct Tape {
     pub width: usize,
