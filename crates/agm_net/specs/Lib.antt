@@ -1,6 +1,8 @@
 pub mod Formula
 pub mod Plain
 pub mod WellFormed
+pub mod Checks
+pub mod Refusal
 pub mod Trace
 pub mod Loop
 pub mod Secret

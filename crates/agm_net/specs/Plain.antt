@@ -1,5 +1,5 @@
 -- A net as plain data: what every definition of behaviour and security speaks of.
-use Rattle.std.specs.Prelude.{◌≡◌, ◌+◌, ◌-◌, ◌∷◌, ◌++◌, ℕ, Bool, true, false, if◌then◌else◌, nat_le, List, [], Option, Some, None, map, codes, take, drop, filter}
+use Rattle.std.specs.Prelude.{◌+◌, ◌-◌, ◌∷◌, ◌++◌, ℕ, Bool, true, false, if◌then◌else◌, nat_le, List, [], Option, Some, None, map, take, drop, filter}
 use Rattle.std.specs.List.{flat_map, range_with_len}
 use Rattle.std.specs.Fmt.{decimal}
 use Rattle.agm_net.specs.Formula.{Formula, formula_of}

@@ -5,7 +5,7 @@ use Rattle.agm_net.specs.Formula.{stands}
 use Rattle.agm_net.specs.Plain.{PlainNet, is_input}
 use Rattle.agm_net.specs.Loop.{reads, IsChain, last_of}
 use Rattle.agm_net.specs.declared.mark.Mark.{Mark}
-use Rattle.agm_net.specs.declared.mark.Mark.TheVariants.{Unmarked, Secure, Public, Clock}
+use Rattle.agm_net.specs.declared.mark.Mark.TheVariants.{Secure}
 
 abbrev pub is_secure : Mark → Bool
 is_secure Secure = true

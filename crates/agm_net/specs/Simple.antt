@@ -1,5 +1,5 @@
 -- Simple nets: those that are masked without a gadget.
-use Rattle.std.specs.Prelude.{◌≡◌, ◌≢◌, ◌<◌, ◌==◌, ℕ, Bool, true, false, ◌||◌, List, [], ◌∷◌, length, filter, Option, None, IsTrue, codes, nat_eq}
+use Rattle.std.specs.Prelude.{◌≡◌, ◌≢◌, ◌<◌, ◌==◌, ℕ, Bool, true, false, ◌||◌, List, [], ◌∷◌, length, filter, None, IsTrue, codes, nat_eq}
 use Rattle.std.specs.List.{flat_map, list_any, AllByRecursion, range_with_len, zip, starts_with}
 use Rattle.agm_net.specs.Formula.{Formula, f_wire, f_not, f_xor, stands}
 use Rattle.agm_net.specs.Plain.{Line, PlainNet, is_input}

@@ -25,7 +25,7 @@ Steps before now registers = AllByRecursion (λ r. now r.q ≡ value before r.ne
 
 -- A trace of a net for power-up contents and a tape: a table with one row for each row of the tape and one bit for each wire.
 -- In every row each equation holds, the input bits are the tape's, and the clock's bit is 0, since the cycle number stands for it.
--- In row 0 each register has its power-up bit, and in each later row the value that its next expression had in the row before.
+-- In the first row each register has its power-up bit, and in each later one the value that its next expression had in the row before.
 pub record IsTrace (net : PlainNet) (power : Row) (tape table : List Row) : Type 0 where
   pub as_long : length table ≡ length tape
   pub as_wide : (t : ℕ) → t < length table → length (row_at table t) ≡ length net.wires

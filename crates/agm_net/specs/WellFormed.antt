@@ -1,9 +1,9 @@
 -- Which plain nets are nets.
-use Rattle.std.specs.Prelude.{◌≡◌, ◌≢◌, ◌≤◌, ◌<◌, ◌+◌, ◌==◌, ℕ, Bool, true, false, ◌&&◌, List, [], length, nat_lt, count_by, filter, map, IsTrue, Option, Some, None, slice_get, is_none}
+use Rattle.std.specs.Prelude.{◌≡◌, ◌≢◌, ◌≤◌, ◌<◌, ◌+◌, ◌==◌, ℕ, Bool, false, ◌&&◌, List, length, nat_lt, count_by, filter, map, IsTrue, Some, slice_get, is_none}
 use Rattle.std.specs.List.{list_all, flat_map}
 use Rattle.std.specs.Option.{option_map_or}
 use Rattle.agm_net.specs.Formula.{reads_below}
-use Rattle.agm_net.specs.Plain.{Line, Stored, PlainNet, bit_names, is_input}
+use Rattle.agm_net.specs.Plain.{PlainNet, bit_names, is_input}
 use Rattle.agm_net.specs.declared.port.Port.{Port}
 
 -- how often a wire is an input port's bit, the wire of an equation, or the output of a register

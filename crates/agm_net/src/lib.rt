@@ -1,12 +1,15 @@
 //! Nets: named wires, ports, equations and registers.
 #![tactic(auto)]
 
+mod checks;
 mod expr;
 mod mark;
 mod net;
 mod port;
+mod refusals;
 
 pub use expr::{Equation, Expr, Register, is_within, not_of, xor_of};
 pub use mark::{Mark, Marks, Role};
 pub use net::{Net, NewNet};
 pub use port::{Port, Range, Way};
+pub use refusals::{nets_are_not_refused, one_number_tells};

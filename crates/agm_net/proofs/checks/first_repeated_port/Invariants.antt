@@ -1,0 +1,6 @@
+use Rattle.std.proofs.Common.{◌≡◌, ℕ, ◌<◌, IsTrue, take, map}
+use Rattle.agm_net.specs.Checks.{is_new}
+use Rattle.agm_net.proofs.checks.first_repeated_port.Given as goal
+
+abbrev pub invariant-loop-i : goal.invariant-loop-i
+invariant-loop-i l = record { added : l.table ≡ take l.i (map (λ p. p.name) l.ports); new_before : (k : ℕ) → k < l.i → IsTrue (is_new (map (λ p. p.name) l.ports) k) }
