@@ -1,3 +1,7 @@
 pub mod Bytes
 pub mod Cuts
+pub mod First
 pub mod Grammar
+pub mod Layout
+pub mod Reading
+pub mod Written

@@ -30,33 +30,11 @@ pub enum Declaration {
 /// An assign, or one of the four cells with its instance's name and the bits at its pins.
 #[derive(Debug, Drop)]
 pub enum Item {
-    Assign {
-        target: Bit,
-        source: Source,
-    },
-    Not {
-        name: Name,
-        a: Bit,
-        y: Bit,
-    },
-    Xor {
-        name: Name,
-        a: Bit,
-        b: Bit,
-        y: Bit,
-    },
-    And {
-        name: Name,
-        a: Bit,
-        b: Bit,
-        y: Bit,
-    },
-    Register {
-        name: Name,
-        c: Bit,
-        d: Bit,
-        q: Bit,
-    },
+    Assign { target: Bit, source: Source },
+    Not { name: Name, a: Bit, y: Bit },
+    Xor { name: Name, a: Bit, b: Bit, y: Bit },
+    And { name: Name, a: Bit, b: Bit, y: Bit },
+    Register { name: Name, c: Bit, d: Bit, q: Bit },
 }
 
 /// What a small text spells: one module.
