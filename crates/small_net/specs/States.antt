@@ -125,7 +125,8 @@ net_of s = record {
   wires = map bit_name (scope s);
   lines = flat_map (item_lines s) s.items;
   registers = flat_map (item_registers s) s.items;
-  clock = position (λ p. is_clock (facts_of s.declarations p)) s.ports }
+  clock = position (λ p. is_clock (facts_of s.declarations p)) s.ports;
+}
 
 -- the marks of the ports, in port order
 abbrev pub marks_of : Small → List Mark
