@@ -1,5 +1,5 @@
 -- The masked net of a simple net, and its report.
-use Rattle.std.specs.Prelude.{◌≡◌, ◌+◌, ◌*◌, ◌++◌, ℕ, zero, suc, cond, List, [], ◌∷◌, Option, Some, None, map, codes, length, nat_lt}
+use Rattle.std.specs.Prelude.{◌+◌, ◌*◌, ◌++◌, ℕ, zero, suc, cond, List, [], ◌∷◌, Some, None, map, codes, length, nat_lt}
 use Rattle.std.specs.List.{flat_map, enumerate_from}
 use Rattle.std.specs.Fmt.{decimal}
 use Rattle.agm_net.specs.Formula.{Formula, f_zero, f_wire, f_not, f_xor}
@@ -58,10 +58,21 @@ masked_net d net = record {
   wires = masked_wires d (length net.ports) net.wires;
   lines = masked_lines d net.lines;
   registers = [];
-  clock = Some 0 }
+  clock = Some 0;
+}
 
 -- its report: every port is shared, and no gadget is needed
 abbrev pub simple_report : ℕ → PlainNet → Report
 simple_report d net = record {
-  order = d; mode = Naive; balance = Pipe; gadgets = 0; random = 0; latency = 0; period = 1; streams = 1;
-  public_registers = 0; secret_registers = 0; ports = map (λ p. p.name) net.ports }
+  order = d;
+  mode = Naive;
+  balance = Pipe;
+  gadgets = 0;
+  random = 0;
+  latency = 0;
+  period = 1;
+  streams = 1;
+  public_registers = 0;
+  secret_registers = 0;
+  ports = map (λ p. p.name) net.ports;
+}

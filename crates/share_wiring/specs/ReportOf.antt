@@ -1,5 +1,5 @@
 -- What a report says of a masked net.
-use Rattle.std.specs.Prelude.{◌≡◌, ◌+◌, ◌*◌, ◌/◌, ℕ, Bool, true, false, not, List, [], ◌∷◌, ◌⊎◌, IsTrue, count_by}
+use Rattle.std.specs.Prelude.{◌≡◌, ◌+◌, ◌*◌, ◌/◌, ℕ, Bool, not, List, [], ◌∷◌, ◌⊎◌, count_by}
 use Rattle.std.specs.List.{Any}
 use Rattle.agm_net.specs.Plain.{PlainNet}
 use Rattle.agm_net.specs.Secret.{IsSecret}

@@ -1,7 +1,7 @@
 -- When a masked net computes what the original does.
-use Rattle.std.specs.Prelude.{◌≡◌, ◌<◌, ℕ, Bool, false, List, [], length, slice_get, slice_index_or, map, Option, Some, IsTrue, ◌↔◌}
+use Rattle.std.specs.Prelude.{◌≡◌, ◌<◌, ℕ, Bool, false, List, length, slice_get, slice_index_or, map, Some, IsTrue, ◌↔◌}
 use Rattle.agm_net.specs.Plain.{PlainNet, Stored}
-use Rattle.agm_net.specs.Trace.{Row, row_at, bit_at, IsTrace}
+use Rattle.agm_net.specs.Trace.{Row, bit_at, IsTrace}
 use Rattle.agm_net.specs.Loop.{HasNoLoop}
 use Rattle.agm_net.specs.Secret.{IsSecret}
 use Rattle.agm_net.specs.declared.mark.Mark.{Mark}

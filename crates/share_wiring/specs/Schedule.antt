@@ -1,5 +1,5 @@
 -- When a masked net is loaded, given its inputs, and read. Times are cycles, counted from 0.
-use Rattle.std.specs.Prelude.{◌≡◌, ◌<◌, ◌≤◌, ◌+◌, ◌*◌, ◌==◌, ℕ, Bool, true, false, not, cond, List, [], ◌∷◌, length, slice_index_or, nat_lt, filter, map, reverse, codes}
+use Rattle.std.specs.Prelude.{◌≡◌, ◌<◌, ◌≤◌, ◌+◌, ◌*◌, ℕ, Bool, true, false, not, cond, List, [], ◌∷◌, length, slice_index_or, nat_lt, filter, map, reverse, codes}
 use Rattle.std.specs.List.{flat_map, zip}
 use Rattle.agm_net.specs.Plain.{PlainNet, is_input, data_ports}
 use Rattle.agm_net.specs.Role.{state_name}

@@ -1,10 +1,10 @@
 -- The ports of a masked net.
-use Rattle.std.specs.Prelude.{◌≡◌, ◌+◌, ◌-◌, ◌++◌, ◌∷◌, ℕ, zero, suc, cond, List, [], Option, Some, None, map, codes}
+use Rattle.std.specs.Prelude.{◌≡◌, ◌+◌, ◌++◌, ◌∷◌, ℕ, zero, suc, cond, List, [], Option, Some, None, map, codes}
 use Rattle.std.specs.List.{flat_map, range_with_len}
 use Rattle.agm_net.specs.Plain.{PlainNet, data_ports}
 use Rattle.agm_net.specs.Role.{share_name, state_name}
 use Rattle.agm_net.specs.declared.port.Way.{Way}
-use Rattle.agm_net.specs.declared.port.Way.TheVariants.{Input, Output}
+use Rattle.agm_net.specs.declared.port.Way.TheVariants.{Input}
 use Rattle.agm_net.specs.declared.port.Range.{Range}
 use Rattle.agm_net.specs.declared.port.Port.{Port}
 use Rattle.share_wiring.specs.declared.report.Report.{Report}

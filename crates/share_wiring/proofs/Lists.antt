@@ -1,0 +1,142 @@
+-- Facts on lists.
+use Rattle.std.proofs.Common.{◌≡◌, ◌<◌, ◌≤◌, ◌+◌, ◌++◌, ℕ, zero, suc, Bool, true, false, ◌==◌, List, [], ◌∷◌, map, filter, cond, IsTrue, refl, ap, ap₂, ◌∙◌, subst, zero-add, arith, inl, inr, length, count_by, slice_get, Some, flat_map}
+use Rattle.std.specs.List.{AllByRecursion, list_any, range_with_len}
+use Rattle.std.proofs.lemmas.Bool.{eqb-true, or_cases, or_left, or_right, or_parts, cases_Bool, cases_eq}
+use Rattle.std.proofs.lemmas.List.{map-append}
+use Rattle.std.proofs.lemmas.List.Sums.{sum_by-cons}
+
+-- what holds of each, of each in the first of two lists
+pub all_front : {X : Type 0} (P : X → Type 0) (xs ys : List X) → AllByRecursion P (xs ++ ys) → AllByRecursion P xs
+all_front P [] ys h = tt
+all_front P (x ∷ xs) ys h = (h.0, all_front P xs ys h.1)
+
+-- and of each in the second
+pub all_back : {X : Type 0} (P : X → Type 0) (xs ys : List X) → AllByRecursion P (xs ++ ys) → AllByRecursion P ys
+all_back P [] ys h = h
+all_back P (x ∷ xs) ys h = all_back P xs ys h.1
+
+-- and of each in both
+pub all_joined : {X : Type 0} (P : X → Type 0) (xs ys : List X) → AllByRecursion P xs → AllByRecursion P ys → AllByRecursion P (xs ++ ys)
+all_joined P [] ys h g = g
+all_joined P (x ∷ xs) ys h g = (h.0, all_joined P xs ys h.1 g)
+
+-- what holds of each follows from what does
+pub all_from : {X : Type 0} (P Q : X → Type 0) → ((x : X) → P x → Q x) → (xs : List X) → AllByRecursion P xs → AllByRecursion Q xs
+all_from P Q f [] h = tt
+all_from P Q f (x ∷ xs) h = (f x h.0, all_from P Q f xs h.1)
+
+-- what holds of each follows from two things that do
+pub all_both : {X : Type 0} (P Q R : X → Type 0) → ((x : X) → P x → Q x → R x) → (xs : List X) → AllByRecursion P xs → AllByRecursion Q xs → AllByRecursion R xs
+all_both P Q R f [] h g = tt
+all_both P Q R f (x ∷ xs) h g = (f x h.0 g.0, all_both P Q R f xs h.1 g.1)
+
+-- what holds of each holds of the one at a place
+pub all_of_one : {X : Type 0} (P : X → Type 0) (xs : List X) (n : ℕ) (x : X) → AllByRecursion P xs → slice_get xs n ≡ Some x → P x
+all_of_one P [] n x h at = absurd (cc)
+all_of_one P (y ∷ ys) zero x h at = let same : y ≡ x = cc in subst P same h.0
+all_of_one P (y ∷ ys) (suc n) x h at = all_of_one P ys n x h.1 at
+
+-- what holds of each item that numbers in a row give
+pub all_at : {X : Type 0} (P : X → Type 0) (f : ℕ → X) (a n : ℕ) → AllByRecursion P (map f (range_with_len a n)) → (i : ℕ) → i < n → P (f (a + i))
+all_at P f a zero h i lt = absurd (omega arith)
+all_at P f a (suc n) h zero lt = let same : a ≡ a + 0 = omega arith in subst (λ k. P (f k)) same h.0
+all_at P f a (suc n) h (suc i) lt =
+    let same : (a + 1) + i ≡ a + suc i = omega arith in
+    subst (λ k. P (f k)) same (all_at P f (a + 1) n h.1 i (omega arith))
+
+-- the same from 0 on
+pub all_below : {X : Type 0} (P : X → Type 0) (f : ℕ → X) (n : ℕ) → AllByRecursion P (map f (range_with_len 0 n)) → (i : ℕ) → i < n → P (f i)
+all_below P f n h i lt = subst (λ k. P (f k)) (zero-add i) (all_at P f 0 n h i lt)
+
+-- lists of the same images
+pub map_same : {X Y : Type 0} (f g : X → Y) (xs : List X) → AllByRecursion (λ x. f x ≡ g x) xs → map f xs ≡ map g xs
+map_same f g [] h = refl
+map_same f g (x ∷ xs) h = let head : f x ≡ g x = h.0 in let tail = map_same f g xs h.1 in cc
+
+-- two functions that agree on a list agree on the items that pass a test
+pub flat_map_filtered : {X Y : Type 0} (f g : X → List Y) (test : X → Bool) (xs : List X) → AllByRecursion (λ x. f x ≡ g x) xs → flat_map f (filter test xs) ≡ flat_map g (filter test xs)
+flat_map_filtered f g test [] h = refl
+flat_map_filtered f g test (x ∷ xs) h =
+    let head : f x ≡ g x = h.0 in
+    let tail = flat_map_filtered f g test xs h.1 in
+    elim (cases_Bool (test x)) [ inl kept ↦ rw kept (ap₂ (λ ys zs. ys ++ zs) head tail) | inr left ↦ rw left tail ]
+
+-- no lists joined are no list
+pub flat_map_nothing : {X Y : Type 0} (f : X → List Y) (xs : List X) → ((x : X) → f x ≡ []) → flat_map f xs ≡ []
+flat_map_nothing f [] none = refl
+flat_map_nothing f (x ∷ xs) none = rw (none x) (flat_map_nothing f xs none)
+
+-- the images of joined lists
+pub map_flat_map : {X Y Z : Type 0} (g : Y → Z) (f : X → List Y) (xs : List X) → map g (flat_map f xs) ≡ flat_map (λ x. map g (f x)) xs
+map_flat_map g f [] = refl
+map_flat_map g f (x ∷ xs) = map-append g (f x) (flat_map f xs) ∙ ap (λ ys. map g (f x) ++ ys) (map_flat_map g f xs)
+
+-- two functions that give a list the same images agree at each of its numbers
+pub agree_at : (f g : ℕ → Bool) (xs : List ℕ) → map f xs ≡ map g xs → (w : ℕ) → IsTrue (list_any (λ b. b == w) xs) → f w ≡ g w
+agree_at f g [] same w some = absurd (let no : false ≡ true = some in cc)
+agree_at f g (x ∷ xs) same w some =
+    let head : f x ≡ g x = cc in
+    let tail : map f xs ≡ map g xs = cc in
+    elim (or_cases (x == w) (list_any (λ b. b == w) xs) some) [ inl here ↦ let is : x ≡ w = eqb-true x w here in cc | inr later ↦ agree_at f g xs tail w later ]
+
+-- an item of a list that numbers in a row give passes a test
+pub any_in_range : {X : Type 0} (test : X → Bool) (f : ℕ → X) (P : Type 0) (a n : ℕ) → ((i : ℕ) → i < a + n → IsTrue (test (f i)) → P)
+    → IsTrue (list_any test (map f (range_with_len a n))) → P
+any_in_range test f P a zero go some = absurd (let no : false ≡ true = some in cc)
+any_in_range test f P a (suc n) go some =
+    elim (or_cases (test (f a)) (list_any test (map f (range_with_len (a + 1) n))) some) [
+      | inl here ↦ go a (omega arith) here
+      | inr there ↦ any_in_range test f P (a + 1) n (λ i lt. go i (omega arith)) there
+    ]
+
+-- counts of one item more
+pub count_yes : {X : Type 0} (test : X → Bool) (x : X) (xs : List X) → IsTrue (test x) → count_by test (x ∷ xs) ≡ 1 + count_by test xs
+count_yes test x xs h = sum_by-cons (λ y. cond (test y) 1 0) x xs ∙ ap (λ b. cond b 1 0 + count_by test xs) h
+
+-- and of one that fails
+pub count_no : {X : Type 0} (test : X → Bool) (x : X) (xs : List X) → test x ≡ false → count_by test (x ∷ xs) ≡ count_by test xs
+count_no test x xs h = sum_by-cons (λ y. cond (test y) 1 0) x xs ∙ (ap (λ b. cond b 1 0 + count_by test xs) h ∙ zero-add (count_by test xs))
+
+-- a count with one item more
+pub count_more : {X : Type 0} (test : X → Bool) (x : X) (xs : List X) → count_by test xs ≤ count_by test (x ∷ xs)
+count_more test x xs = let split = sum_by-cons (λ y. cond (test y) 1 0) x xs in omega arith
+
+-- counts and tests of some item
+pub count_some : {X : Type 0} (test : X → Bool) (xs : List X) → IsTrue (list_any test xs) → 1 ≤ count_by test xs
+count_some test [] some = absurd (let no : false ≡ true = some in cc)
+count_some test (x ∷ xs) some =
+    elim (or_cases (test x) (list_any test xs) some) [
+      | inl here ↦ (let one = count_yes test x xs here in omega arith)
+      | inr there ↦ (let rest = count_some test xs there in let more = count_more test x xs in omega arith)
+    ]
+
+-- no item passes, none is counted
+pub count_none : {X : Type 0} (test : X → Bool) (xs : List X) → list_any test xs ≡ false → count_by test xs ≡ 0
+count_none test [] none = refl
+count_none test (x ∷ xs) none =
+    let parts = or_parts (test x) (list_any test xs) none in count_no test x xs parts.0 ∙ count_none test xs parts.1
+
+-- an item is counted, one passes
+pub some_counted : {X : Type 0} (test : X → Bool) (xs : List X) → 1 ≤ count_by test xs → IsTrue (list_any test xs)
+some_counted test xs more =
+    elim (cases_Bool (list_any test xs)) [ inl some ↦ some | inr none ↦ absurd (let zero_all = count_none test xs none in omega arith) ]
+
+-- a list that is as long as an empty one is empty
+pub no_items : {X Y : Type 0} (xs : List X) (ys : List Y) → length xs ≡ length ys → ys ≡ [] → xs ≡ []
+no_items [] ys long empty = refl
+no_items (x ∷ xs) [] long empty = absurd (omega arith)
+no_items (x ∷ xs) (y ∷ ys) long empty = absurd (cc)
+
+-- what holds of each number in a row holds of each item that they give
+pub all_in_range : {X : Type 0} (P : X → Type 0) (f : ℕ → X) (a n : ℕ) → ((i : ℕ) → i < a + n → P (f i)) → AllByRecursion P (map f (range_with_len a n))
+all_in_range P f a zero h = tt
+all_in_range P f a (suc n) h = (h a (omega arith), all_in_range P f (a + 1) n (λ i lt. h i (omega arith)))
+
+-- a test that the item of one number passes is passed by some item
+pub found_in_range : {X : Type 0} (test : X → Bool) (f : ℕ → X) (i a n : ℕ) → a ≤ i → i < a + n → IsTrue (test (f i)) → IsTrue (list_any test (map f (range_with_len a n)))
+found_in_range test f i a zero le lt h = absurd (omega arith)
+found_in_range test f i a (suc n) le lt h =
+    elim (cases_eq a i) [
+      | inl here ↦ or_left (test (f a)) (list_any test (map f (range_with_len (a + 1) n))) (ap (λ k. test (f k)) here ∙ h)
+      | inr apart ↦ or_right (test (f a)) (list_any test (map f (range_with_len (a + 1) n))) (found_in_range test f i (a + 1) n (omega arith) (omega arith) h)
+    ]
