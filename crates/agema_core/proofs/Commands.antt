@@ -1,0 +1,155 @@
+-- Words are read as the command that they are.
+use Rattle.std.proofs.Common.{◌≡◌, ◌≤◌, ◌<◌, ◌+◌, ◌-◌, ◌⊎◌, ℕ, Bool, true, false, cond, ◌&&◌, List, [], ◌∷◌, length, Option, Some, None, codes, refl, sym, ap, ◌∙◌, subst, arith, inl, inr, nat_le}
+use Rattle.std.specs.Str.{bytes_eq}
+use Rattle.std.specs.Fmt.{decimal}
+use Rattle.std.proofs.lemmas.Fmt.{decimal_digit}
+use Rattle.std.proofs.lemmas.Slice.Eq.{bytes_eq-Decides}
+use Rattle.std.proofs.lemmas.Bool.Decides.{nat_tests}
+use Rattle.share_wiring.specs.declared.report.Mode.{Mode}
+use Rattle.share_wiring.specs.declared.report.Mode.TheVariants.{Naive, Aig, Bdd}
+use Rattle.share_wiring.specs.declared.report.Balance.{Balance}
+use Rattle.share_wiring.specs.declared.report.Balance.TheVariants.{Pipe, Gate}
+use Rattle.masked_writer.specs.Report.{mode_text, balance_text}
+use Rattle.agema_core.specs.Words.{Mask, IsOrder, IsMask}
+use Rattle.agema_core.specs.Command.{◌>>=◌, order_of, mode_of, balance_of, is_filled, are_names, parts_of, command_of}
+
+-- the two ways of a choice
+chosen : {X : Type 0} (b : Bool) (x y z : X) → cond b x y ≡ z → ((b ≡ true) × (x ≡ z)) ⊎ ((b ≡ false) × (y ≡ z))
+chosen true x y z h = inl (refl, h)
+chosen false x y z h = inr (refl, h)
+
+both : (a b : Bool) → a && b ≡ true → (a ≡ true) × (b ≡ true)
+both true b h = (refl, h)
+both false b h = cc
+
+same_bytes : (xs ys : List ℕ) → bytes_eq xs ys ≡ true → xs ≡ ys
+same_bytes xs ys h = (bytes_eq-Decides xs ys).0 h
+
+bytes_same : (xs : List ℕ) → bytes_eq xs xs ≡ true
+bytes_same xs = (bytes_eq-Decides xs xs).1 refl
+
+filled_some : (word : List ℕ) → is_filled word ≡ true → 0 < length word
+filled_some [] h = cc
+filled_some (b ∷ bs) h = omega arith
+
+some_filled : (word : List ℕ) → 0 < length word → is_filled word ≡ true
+some_filled [] h = absurd (omega arith)
+some_filled (b ∷ bs) h = grind (arith, nat_tests)
+
+-- orders
+
+pub order_read : (d : ℕ) → IsOrder d → order_of (decimal d) ≡ Some d
+order_read d (low, high) =
+    let one : decimal d ≡ (48 + d) ∷ [] = decimal_digit d (omega arith) in
+    let test : nat_le 49 (48 + d) && nat_le (48 + d) 55 ≡ true = grind (arith, nat_tests) in
+    let back : (48 + d) - 48 ≡ d = omega arith in
+    ap order_of one ∙ rw test (ap (λ x. Some x) back)
+
+pub read_order : (w : List ℕ) (d : ℕ) → order_of w ≡ Some d → IsOrder d × (w ≡ decimal d)
+read_order [] d h = cc
+read_order (b ∷ c ∷ bs) d h = cc
+read_order (b ∷ []) d h = elim (chosen (nat_le 49 b && nat_le b 55) (Some (b - 48)) None (Some d) h) [
+  | inl y ↦ (
+      let low : 49 ≤ b = grind (arith, nat_tests) in
+      let high : b ≤ 55 = grind (arith, nat_tests) in
+      let same : b - 48 ≡ d = (let e = y.1 in cc) in
+      let fits : IsOrder d = (omega arith, omega arith) in
+      let byte : 48 + d ≡ b = omega arith in
+      (fits, sym (decimal_digit d (omega arith) ∙ ap (λ x. x ∷ []) byte)))
+  | inr n ↦ (let e = n.1 in cc)
+]
+
+-- modes and balances
+
+mode_read : (m : Mode) → mode_of (mode_text m) ≡ Some m
+mode_read Naive = refl
+mode_read Aig = refl
+mode_read Bdd = refl
+
+read_mode : (w : List ℕ) (m : Mode) → mode_of w ≡ Some m → w ≡ mode_text m
+read_mode w m h = elim (chosen (bytes_eq w (codes "naive")) (Some Naive) (cond (bytes_eq w (codes "aig")) (Some Aig) (cond (bytes_eq w (codes "bdd")) (Some Bdd) None)) (Some m) h) [
+  | inl y ↦ (let same : Naive ≡ m = (let e = y.1 in cc) in same_bytes w (codes "naive") y.0 ∙ ap mode_text same)
+  | inr n ↦ elim (chosen (bytes_eq w (codes "aig")) (Some Aig) (cond (bytes_eq w (codes "bdd")) (Some Bdd) None) (Some m) n.1) [
+    | inl y ↦ (let same : Aig ≡ m = (let e = y.1 in cc) in same_bytes w (codes "aig") y.0 ∙ ap mode_text same)
+    | inr o ↦ elim (chosen (bytes_eq w (codes "bdd")) (Some Bdd) None (Some m) o.1) [
+      | inl y ↦ (let same : Bdd ≡ m = (let e = y.1 in cc) in same_bytes w (codes "bdd") y.0 ∙ ap mode_text same)
+      | inr p ↦ (let e = p.1 in cc)
+    ]
+  ]
+]
+
+balance_read : (b : Balance) → balance_of (balance_text b) ≡ Some b
+balance_read Pipe = refl
+balance_read Gate = refl
+
+read_balance : (w : List ℕ) (b : Balance) → balance_of w ≡ Some b → w ≡ balance_text b
+read_balance w b h = elim (chosen (bytes_eq w (codes "pipe")) (Some Pipe) (cond (bytes_eq w (codes "gate")) (Some Gate) None) (Some b) h) [
+  | inl y ↦ (let same : Pipe ≡ b = (let e = y.1 in cc) in same_bytes w (codes "pipe") y.0 ∙ ap balance_text same)
+  | inr n ↦ elim (chosen (bytes_eq w (codes "gate")) (Some Gate) None (Some b) n.1) [
+    | inl y ↦ (let same : Gate ≡ b = (let e = y.1 in cc) in same_bytes w (codes "gate") y.0 ∙ ap balance_text same)
+    | inr o ↦ (let e = o.1 in cc)
+  ]
+]
+
+-- what a step of reading gave, and what the next one did
+bound : {A B : Type 0} (o : Option A) (f : A → Option B) (y : B) → (o >>= f) ≡ Some y → (x : A) × (o ≡ Some x) × (f x ≡ Some y)
+bound None f y h = cc
+bound (Some x) f y h = (x, refl, h)
+
+abbrev with_order : (library net mode balance out : List ℕ) → ℕ → Option Mask
+with_order library net mode balance out d = mode_of mode >>= (λ m. balance_of balance >>= (λ b. Some (record { library = library; net = net; order = d; mode = m; balance = b; out = out })))
+
+abbrev with_mode : (library net balance out : List ℕ) → ℕ → Mode → Option Mask
+with_mode library net balance out d m = balance_of balance >>= (λ b. Some (record { library = library; net = net; order = d; mode = m; balance = b; out = out }))
+
+abbrev IsParts : (library net order mode balance out : List ℕ) → Mask → Type 0
+IsParts library net order mode balance out m =
+    (m.library ≡ library) × (m.net ≡ net) × (m.out ≡ out) × (order ≡ decimal m.order) × (mode ≡ mode_text m.mode) × (balance ≡ balance_text m.balance) × IsOrder m.order
+
+read_parts : (library net order mode balance out : List ℕ) (m : Mask) → parts_of library net order mode balance out ≡ Some m → IsParts library net order mode balance out m
+unfolding parts_of
+read_parts library net order mode balance out m h =
+    let d = bound (order_of order) (with_order library net mode balance out) m h in
+    let v = bound (mode_of mode) (with_mode library net balance out d.0) m d.2 in
+    let b = bound (balance_of balance) (λ b. Some (record { library = library; net = net; order = d.0; mode = v.0; balance = b; out = out })) m v.2 in
+    let is : record { library = library; net = net; order = d.0; mode = v.0; balance = b.0; out = out } ≡ m = (let e = b.2 in cc) in
+    let P : Mask → Type 0 = λ m. IsParts library net order mode balance out m in
+    let o = read_order order d.0 d.1 in
+    subst P is (refl, refl, refl, o.1, read_mode mode v.0 v.1, read_balance balance b.0 b.1, o.0)
+
+parts_read : (m : Mask) → IsOrder m.order → parts_of m.library m.net (decimal m.order) (mode_text m.mode) (balance_text m.balance) m.out ≡ Some m
+unfolding parts_of
+parts_read m fits = rw (order_read m.order fits, mode_read m.mode, balance_read m.balance) refl
+
+-- the words of a command are read as it
+pub command_read : (words : List (List ℕ)) (m : Mask) → IsMask words m → command_of words ≡ Some m
+command_read words m is =
+    let library = some_filled m.library is.has_library in
+    let net = some_filled m.net is.has_net in
+    let out = some_filled m.out is.has_out in
+    ap command_of is.words_are ∙ rw (library, net, out) (parts_read m is.order_fits)
+
+-- what is read is the command that the words are
+pub read_command : (words : List (List ℕ)) (m : Mask) → command_of words ≡ Some m → IsMask words m
+read_command (command ∷ library ∷ net ∷ order ∷ mode ∷ balance ∷ out ∷ []) m h =
+    elim (chosen (are_names command library net out) (parts_of library net order mode balance out) None (Some m) h) [
+      | inl y ↦ (
+          let p = read_parts library net order mode balance out m y.1 in
+          let first = both (bytes_eq command (codes "mask")) (is_filled library && (is_filled net && is_filled out)) y.0 in
+          let second = both (is_filled library) (is_filled net && is_filled out) first.1 in
+          let third = both (is_filled net) (is_filled out) second.1 in
+          let word : command ≡ codes "mask" = same_bytes command (codes "mask") first.0 in
+          record {
+            words_are = (let a = p.0 in let b = p.1 in let c = p.2 in let d = p.3 in let e = p.4 in let f = p.5 in cc);
+            order_fits = p.6;
+            has_library = rw p.0 (filled_some library second.0);
+            has_net = rw p.1 (filled_some net third.0);
+            has_out = rw p.2 (filled_some out third.1);
+          })
+      | inr n ↦ (let e = n.1 in cc)
+    ]
+read_command _ m h = cc
+
+-- words are one command at most
+pub one_command : (words : List (List ℕ)) (m n : Mask) → IsMask words m → IsMask words n → m ≡ n
+one_command words m n p q = let a = command_read words m p in let b = command_read words n q in cc

@@ -1,0 +1,34 @@
+-- Facts on counts of operators.
+use Rattle.std.proofs.Common.{◌≡◌, ◌≤◌, ◌<◌, ◌+◌, ◌*◌, ◌⊎◌, ℕ, List, [], ◌∷◌, map, fold, sum_by, min, refl, arith, inl, inr, sym, subst, true, false, nat_lt}
+use Rattle.std.proofs.Math.Nat.{mul-le-mul_left}
+use Rattle.std.proofs.lemmas.Bool.Decides.{nat_tests}
+
+fold_map : {X Y : Type 0} (f : Y → ℕ) (g : X → Y) (n : ℕ) (xs : List X) → fold (λ a y. a + f y) n (map g xs) ≡ fold (λ a x. a + f (g x)) n xs
+fold_map f g n [] = refl
+fold_map f g n (x ∷ xs) = fold_map f g (n + f (g x)) xs
+
+-- a sum over images
+pub sum_by_map : {X Y : Type 0} (f : Y → ℕ) (g : X → Y) (xs : List X) → sum_by f (map g xs) ≡ sum_by (λ x. f (g x)) xs
+sum_by_map f g xs = fold_map f g 0 xs
+
+above : (s q limit most : ℕ) → 1 ≤ q → limit < most → most ≤ s → (limit < s * q) × (limit < most * q)
+above s q limit most some low high =
+    let first : s * 1 ≤ s * q = mul-le-mul_left s some in
+    let second : most * 1 ≤ most * q = mul-le-mul_left most some in
+    (omega arith, omega arith)
+
+split : (s most : ℕ) → (s ≤ most) ⊎ (most ≤ s)
+split s most = elim (nat_lt s most) as (λ b. nat_lt s most ≡ b → (s ≤ most) ⊎ (most ≤ s)) [
+  | true ↦ (λ e. inl (let lt : s < most = grind (arith, nat_tests) in omega arith))
+  | false ↦ (λ e. inr (let le : most ≤ s = grind (arith, nat_tests) in le))
+] refl
+
+-- a count that stays at a greatest value above the limit tells as much as the count itself
+pub same_test : (s q limit most : ℕ) → 1 ≤ q → limit < most → (limit < min s most * q → limit < s * q) × (limit < s * q → limit < min s most * q)
+same_test s q limit most some low = elim (split s most) [
+  | inl le ↦ (let same : min s most ≡ s = omega arith in ((λ h. (let P : ℕ → Type 0 = λ n. limit < n * q in subst P same h)), (λ h. (let P : ℕ → Type 0 = λ n. limit < n * q in subst P (sym same) h))))
+  | inr ge ↦ (let same : min s most ≡ most = omega arith in let both = above s q limit most some low ge in ((λ h. both.0), (λ h. (let P : ℕ → Type 0 = λ n. limit < n * q in subst P (sym same) both.1))))
+]
+
+pub one_square : (n : ℕ) → 1 ≤ (n + 1) * (n + 1)
+one_square n = let h : (n + 1) * 1 ≤ (n + 1) * (n + 1) = mul-le-mul_left (n + 1) (omega arith) in omega arith

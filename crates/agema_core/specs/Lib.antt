@@ -1,0 +1,6 @@
+pub mod Words
+pub mod Line
+pub mod Operators
+pub mod Masks
+pub mod Answer
+pub mod Command

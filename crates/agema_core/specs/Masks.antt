@@ -1,0 +1,53 @@
+-- What `mask` writes for a netlist.
+use Rattle.std.specs.Prelude.{◌≡◌, ◌≤◌, ◌<◌, ◌++◌, ℕ, List, codes}
+use Rattle.agm_net.specs.Plain.{PlainNet}
+use Rattle.agm_net.specs.declared.mark.Mark.{Mark}
+use Rattle.share_wiring.specs.declared.report.Report.{Report}
+use Rattle.share_wiring.specs.declared.report.Mode.TheVariants.{Naive}
+use Rattle.share_wiring.specs.declared.report.Balance.TheVariants.{Pipe}
+use Rattle.share_wiring.specs.ReportOf.{ReportOf}
+use Rattle.share_wiring.specs.Same.{Same}
+use Rattle.small_net.specs.Texts.{StatesFirst, StatesNet}
+use Rattle.masked_writer.specs.Report.{report_text}
+use Rattle.agema_core.specs.Line.{mask_line}
+use Rattle.agema_core.specs.Operators.{size_of}
+
+-- the greatest size that is masked
+abbrev pub size_limit : ℕ
+size_limit = 65536
+
+-- the most bytes of a file that is read
+abbrev pub length_limit : ℕ
+length_limit = 268435456
+
+-- What is written for an original: OUT is a small text that states a masked net, which computes what the original does; the report's
+-- file and the printed line are those of a report of the original.
+pub record MasksNet (original : PlainNet) (marks : List Mark) (order : ℕ) (out file line : List ℕ) : Type 0 where
+  pub masked : PlainNet
+  pub report : Report
+  pub is_written : StatesNet out masked
+  pub reported : ReportOf original marks order Naive Pipe 0 0 report
+  pub file_is : file ≡ report_text report
+  pub line_is : line ≡ mask_line report
+  pub same : Same original marks report masked
+
+-- The first half of the program's theorem: the text is of the first form and states an original within the limit, and this is
+-- what is written for it.
+pub record Masks (text : List ℕ) (order : ℕ) (out file line : List ℕ) : Type 0 where
+  pub original : PlainNet
+  pub marks : List Mark
+  pub is_read : StatesFirst text original marks
+  pub fits : size_of original order ≤ size_limit
+  pub masks : MasksNet original marks order out file line
+
+-- the text is of the first form, and its net is within the limit
+abbrev pub CanMask : List ℕ → ℕ → Type 0
+CanMask text order = (original : PlainNet) × (marks : List Mark) × StatesFirst text original marks × (size_of original order ≤ size_limit)
+
+-- each net that the text states in the first form is above the limit: if it is of that form at all
+abbrev pub CannotMask : List ℕ → ℕ → Type 0
+CannotMask text order = (original : PlainNet) (marks : List Mark) → StatesFirst text original marks → size_limit < size_of original order
+
+-- the file of the report stands beside OUT
+abbrev pub report_name : List ℕ → List ℕ
+report_name out = out ++ codes ".json"

@@ -1,0 +1,27 @@
+-- The words of a command.
+use Rattle.std.specs.Prelude.{◌≡◌, ◌≤◌, ◌<◌, ℕ, List, [], ◌∷◌, length, codes}
+use Rattle.std.specs.Fmt.{decimal}
+use Rattle.share_wiring.specs.declared.report.Mode.{Mode}
+use Rattle.share_wiring.specs.declared.report.Balance.{Balance}
+use Rattle.masked_writer.specs.Report.{mode_text, balance_text}
+
+-- what the words of a `mask` command say
+pub record Mask : Type 0 where
+  pub library : List ℕ
+  pub net : List ℕ
+  pub order : ℕ
+  pub mode : Mode
+  pub balance : Balance
+  pub out : List ℕ
+
+-- an order that can be asked for
+abbrev pub IsOrder : ℕ → Type 0
+IsOrder d = (1 ≤ d) × (d ≤ 7)
+
+-- the words are `mask LIB NET D MODE BALANCE OUT`, with D from 1 to 7, and none is empty
+pub record IsMask (words : List (List ℕ)) (m : Mask) : Type 0 where
+  pub words_are : words ≡ codes "mask" ∷ m.library ∷ m.net ∷ decimal m.order ∷ mode_text m.mode ∷ balance_text m.balance ∷ m.out ∷ []
+  pub order_fits : IsOrder m.order
+  pub has_library : 0 < length m.library
+  pub has_net : 0 < length m.net
+  pub has_out : 0 < length m.out

@@ -1,0 +1,14 @@
+//! The commands of `agema`.
+#![tactic(auto)]
+
+mod ended;
+mod line;
+mod masked;
+mod program;
+mod size;
+#[cfg(test)]
+mod tests;
+mod words;
+
+pub use ended::{Ended, Refusal};
+pub use program::run;

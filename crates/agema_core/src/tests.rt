@@ -1,0 +1,8 @@
+//! Tests of the commands, over files and outputs in memory, and of masked nets beside their originals.
+
+mod evaluator;
+mod faults;
+mod line;
+mod masked_nets;
+mod refusals;
+mod two_cells;

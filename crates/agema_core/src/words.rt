@@ -1,0 +1,106 @@
+ghost use Rattle.std.specs.Prelude.{◌≡◌, map, string_bytes};
+ghost use Rattle.std.specs.Option.{option_map};
+ghost use Rattle.agema_core.specs.Command as spec;
+
+use share_wiring::{Balance, Mode};
+
+/// The words of a `mask` command.
+#[derive(Clone, Copy)]
+pub(crate) struct Command<'a> {
+    pub library: &'a str,
+    pub net: &'a str,
+    pub order: u32,
+    pub mode: Mode,
+    pub balance: Balance,
+    pub out: &'a str,
+}
+
+// The order that a word spells, from 1 to 7.
+fn read_order(word: &str) -> Option<u32>
+    ensures { result ≡ spec.order_of word.now }
+{
+    match word.as_bytes() {
+        [b] if b'1' <= *b && *b <= b'7' => Some((*b - b'0') as u32),
+        _ => None,
+    }
+}
+
+// The mode that a word spells.
+fn read_mode(word: &str) -> Option<Mode>
+    ensures { result ≡ spec.mode_of word.now }
+{
+    match word {
+        "naive" => Some(Mode::Naive),
+        "aig" => Some(Mode::Aig),
+        "bdd" => Some(Mode::Bdd),
+        _ => None,
+    }
+}
+
+// The balance that a word spells.
+fn read_balance(word: &str) -> Option<Balance>
+    ensures { result ≡ spec.balance_of word.now }
+{
+    match word {
+        "pipe" => Some(Balance::Pipe),
+        "gate" => Some(Balance::Gate),
+        _ => None,
+    }
+}
+
+// Whether the first word is the command's, and none of the names is empty.
+fn are_names(command: &str, library: &str, net: &str, out: &str) -> bool
+    ensures { result ≡ spec.are_names command.now library.now net.now out.now }
+{
+    command == "mask" && (!library.is_empty() && (!net.is_empty() && !out.is_empty()))
+}
+
+// The command of the words behind the first one.
+#[tactic(auto, unfolding(crate::specs::Command::parts_of))]
+fn read_parts<'a>(
+    library: &'a str,
+    net: &'a str,
+    order: &str,
+    mode: &str,
+    balance: &str,
+    out: &'a str,
+) -> Option<Command<'a>>
+    ensures { option_map spec.mask_of result ≡ spec.parts_of library.now net.now order.now mode.now balance.now out.now }
+{
+    let order = read_order(order)?;
+    let mode = read_mode(mode)?;
+    let balance = read_balance(balance)?;
+    Some(Command {
+        library,
+        net,
+        order,
+        mode,
+        balance,
+        out,
+    })
+}
+
+/// The command that the words are, None where they are none.
+pub(crate) fn read_command(words: &[String]) -> Option<Command<'_>>
+    ensures { option_map spec.mask_of result ≡ spec.command_of (map string_bytes words.now) }
+{
+    match words {
+        [command, library, net, order, mode, balance, out] => {
+            let library = library.as_str();
+            let net = net.as_str();
+            let out = out.as_str();
+            if !are_names(command.as_str(), library, net, out) {
+                return None;
+            }
+            read_parts(
+                library,
+                net,
+                order.as_str(),
+                mode.as_str(),
+                balance.as_str(),
+                out,
+            )
+        }
+        _ => None,
+    }
+}
