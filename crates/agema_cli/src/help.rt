@@ -1,0 +1,37 @@
+//! What the program says of itself.
+
+/// Printed by `--version`.
+pub(crate) const VERSION: &str = "agema 0.1\n";
+
+/// Printed by `--help`.
+pub(crate) const HELP: &str =
+    "agema masks gate-level netlists: it writes a netlist that computes on d+1 shares of every secret.
+
+  agema mask LIB NET D MODE BALANCE OUT
+
+    LIB      a Liberty cell library, or - for none
+    NET      the netlist, structural Verilog; secure inputs are marked (* AGEMA = \"secure\" *)
+    D        the order, 1 to 7: each secret bit is split into D+1 shares
+    MODE     naive, aig or bdd
+    BALANCE  pipe or gate
+    OUT      the masked netlist; a report is written beside it, as OUT.json
+
+  for example:  agema mask - examples/parity.v 1 naive pipe parity_masked.v
+
+    It prints one line: order, mode, balance, gadgets, random bits a cycle, latency and period in cycles, streams.
+    Built so far: - as LIB, naive and pipe, and netlists of AGM_NOT and AGM_XOR2 cells, in an order in which each
+    cell reads inputs and cells before it, every input secure (docs/FORMATS.md, \"The first form\").
+
+  agema --help       prints this
+  agema --version    prints the version
+
+exit status
+   0  the command did all that it says
+   2  the words are no command
+   3  a file could not be read
+   4  a file could not be written
+   5  there is not enough memory
+   6  standard output could not be written
+   7  a word of the command line is not text
+  31  what is asked for is not built yet
+";
