@@ -1,4 +1,4 @@
-ghost use Rattle.std.specs.Prelude.{◌≡◌, ◌≤◌, false, Some, None, Ok, IsSome, OnOk, OnErr, IfOk, IfErr, length};
+ghost use Rattle.std.specs.Prelude.{◌≡◌, ◌≤◌, ◌<◌, ◌+◌, ◌^◌, IsTrue, false, Some, None, Ok, IsSome, OnOk, OnErr, IfOk, IfErr, length};
 ghost use Rattle.agm_shelf.specs.Shelf.{IsTooLong, Continues};
 ghost use Rattle.agm_shelf.specs.Turn.{count_after};
 ghost use Rattle.agm_shelf.specs.Ends.{read_failed, put_failed};
@@ -7,7 +7,7 @@ ghost use Rattle.agm_shelf.specs.FilesShelf.{open_name, read_failures, write_fai
 use crate::{PutEnd, ReadEnd, Shelf};
 use agm_bits::Name;
 use std::alloc::Global;
-use std::fs;
+use std::fs::{self, OpenFile};
 use std::io::{ErrorKind, Read, Write};
 use std::rt::Files;
 
@@ -27,11 +27,28 @@ pub struct FilesShelf<R: Files> {
     write_faults: u64,
 }
 
-// All that a reader has left, where this isn't more than `limit` bytes. At most one byte more is read.
-fn read_within<F: Read + Drop>(alloc: Global, file: F, limit: usize) -> Result<Vec<u8>, ReadEnd>
+// Whether a file is known to be longer than a limit before it is read. A pipe tells no length.
+fn is_longer<F: OpenFile>(file: &F, limit: usize) -> bool
+    ensures { IsTrue result → limit + 1 < 2 ^ 64 }
+{
+    match file.metadata() {
+        Ok(facts) => facts.len() > limit as u64,
+        Err(_) => false,
+    }
+}
+
+// All that a file has, where this isn't more than `limit` bytes. At most one byte more is read.
+fn read_within<F: Read + OpenFile + Drop>(
+    alloc: Global,
+    file: F,
+    limit: usize,
+) -> Result<Vec<u8>, ReadEnd>
     ensures within { IfOk result (λ v. length v.items ≤ limit) }
     ensures too_long { IfErr result (IsTooLong limit false None) }
 {
+    if is_longer(&file, limit) {
+        return Err(ReadEnd::TooLong { seen: limit + 1 });
+    }
     let mut bytes = Vec::new(alloc);
     let most = (limit as u64).saturating_add(1);
     match file.take(most).read_to_end(&mut bytes) {
