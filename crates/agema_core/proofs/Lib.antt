@@ -4,3 +4,4 @@ pub mod Sizes
 pub mod PortNames
 pub mod OneNet
 pub mod Traces
+pub mod Left

@@ -1,5 +1,11 @@
 -- Facts on counts of operators.
-use Rattle.std.proofs.Common.{◌≡◌, ◌≤◌, ◌<◌, ◌+◌, ◌*◌, ◌⊎◌, ℕ, List, [], ◌∷◌, map, fold, sum_by, min, refl, arith, inl, inr, sym, subst, true, false, nat_lt}
+use Rattle.std.proofs.Common.{◌≡◌, ◌≤◌, ◌<◌, ◌+◌, ◌*◌, ◌⊎◌, ℕ, List, [], ◌∷◌, map, fold, sum_by, min, length, ap, refl, arith, inl, inr, sym, subst, true, false, nat_lt}
+use Rattle.std.specs.List.{AllByRecursion}
+use Rattle.agm_net.specs.Formula.{Formula, f_wire, f_not, f_xor}
+use Rattle.agm_net.specs.Plain.{Line, PlainNet}
+use Rattle.agm_net.specs.Simple.{IsLinear}
+use Rattle.agema_core.specs.Operators.{operators, operators_of}
+use Rattle.std.proofs.lemmas.List.Sums.{sum_by-cons}
 use Rattle.std.proofs.Math.Nat.{mul-le-mul_left}
 use Rattle.std.proofs.lemmas.Bool.Decides.{nat_tests}
 
@@ -32,3 +38,23 @@ same_test s q limit most some low = elim (split s most) [
 
 pub one_square : (n : ℕ) → 1 ≤ (n + 1) * (n + 1)
 one_square n = let h : (n + 1) * 1 ≤ (n + 1) * (n + 1) = mul-le-mul_left (n + 1) (omega arith) in omega arith
+
+-- a linear formula has one operator at the most
+linear_one : (f : Formula) → IsLinear f → operators f ≤ 1
+linear_one (f_wire a) h = omega arith
+linear_one (f_not (f_wire a)) h = omega arith
+linear_one (f_xor (f_wire a) (f_wire b)) h = omega arith
+linear_one _ h = absurd h
+
+few : (lines : List Line) → AllByRecursion (λ l. IsLinear l.1) lines → sum_by (λ l. operators l.1) lines ≤ length lines
+few [] h = omega arith
+few ((w, f) ∷ ls) h =
+    let one = linear_one f h.0 in
+    let rest = few ls h.1 in
+    let sum = sum_by-cons (λ (l : Line). operators l.1) (w, f) ls in omega arith
+
+-- a linear net has one operator in each equation at the most
+pub linear_few : (net : PlainNet) → AllByRecursion (λ l. IsLinear l.1) net.lines → net.registers ≡ [] → operators_of net ≤ length net.lines
+linear_few net linear none =
+    let lines = few net.lines linear in
+    let stored : sum_by (λ r. operators r.next) net.registers ≡ 0 = ap (sum_by (λ r. operators r.next)) none in omega arith

@@ -1,13 +1,14 @@
--- What a run answers, and what it leaves.
+-- When each answer of a run comes, and what it leaves.
 use Rattle.std.specs.Prelude.{◌≡◌, ◌≢◌, ◌≤◌, ◌<◌, ◌⊎◌, ◌++◌, ℕ, List, Bool, IsTrue, Some, length, codes}
-use Rattle.agm_shelf.specs.Shelf.{Rose, Contents, text_of}
+use Rattle.agm_shelf.specs.Shelf.{Rose, Contents, AllStay, IsFrontOrOld, TakesFront, text_of}
 use Rattle.share_wiring.specs.declared.report.Mode.TheVariants.{Naive}
 use Rattle.share_wiring.specs.declared.report.Balance.TheVariants.{Pipe}
 use Rattle.agema_core.specs.Words.{Mask}
-use Rattle.agema_core.specs.Masks.{Masks, CanMask, CannotMask, length_limit, report_name}
+use Rattle.agema_core.specs.Masks.{Masks, CanMask, IsNotFirst, IsTooLarge, length_limit, report_name}
 use Rattle.agema_core.specs.declared.ended.Ended.{Ended}
 use Rattle.agema_core.specs.declared.ended.Ended.TheVariants.{Done, Usage, ReadFault, WriteFault, PrintFault, Memory, Refused}
-use Rattle.agema_core.specs.declared.ended.Refusal.TheVariants.{NotBuilt}
+use Rattle.agema_core.specs.declared.ended.Refusal.{Refusal}
+use Rattle.agema_core.specs.declared.ended.Refusal.TheVariants.{TooLong, TooLarge, NotBuilt}
 
 -- the words ask for what is built: no library, naive mode, pipelines
 pub record IsBuilt (m : Mask) : Type 0 where
@@ -15,20 +16,21 @@ pub record IsBuilt (m : Mask) : Type 0 where
   pub mode_is : m.mode ≡ Naive
   pub balance_is : m.balance ≡ Pipe
 
--- the faults' counts before and after a call
+-- the faults' counts before or after a call
 pub record Counts : Type 0 where
   pub reads : ℕ
   pub writes : ℕ
   pub prints : ℕ
 
--- the text that the netlist's name holds can't be masked: it is too long, not of the first form, or its net is too large
-abbrev pub IsUnfit : Mask → List ℕ → Type 0
-IsUnfit m text = (length_limit < length text) ⊎ CannotMask text m.order
+abbrev pub counts : (reads writes prints : ℕ) → Counts
+counts reads writes prints = record { reads = reads; writes = writes; prints = prints }
 
+-- the text is not too long, is of the first form, and its net is not too large
 abbrev pub IsFit : Mask → List ℕ → Type 0
 IsFit m text = (length text ≤ length_limit) × CanMask text m.order
 
--- When each answer may come, for the words m and the netlist's text where the shelf tells it.
+-- When each answer may come, for the words m and the netlist's text where the shelf tells it. Each refusal of a text yields to a read
+-- fault and to want of memory.
 abbrev pub HasCause : Mask → Bool → List ℕ → (before now : Counts) → Ended → Type 0
 HasCause m told text before now Done = IsBuilt m × (IsTrue told → IsFit m text)
 HasCause m told text before now Usage = Prim.⊥
@@ -36,7 +38,9 @@ HasCause m told text before now (ReadFault file) = IsBuilt m × (file ≡ m.net)
 HasCause m told text before now (WriteFault file) = IsBuilt m × (IsTrue told → IsFit m text) × ((file ≡ m.out) ⊎ (file ≡ report_name m.out)) × Rose before.writes now.writes
 HasCause m told text before now PrintFault = IsBuilt m × (IsTrue told → IsFit m text) × Rose before.prints now.prints
 HasCause m told text before now Memory = IsBuilt m
-HasCause m told text before now (Refused NotBuilt) = (IsBuilt m → Prim.⊥) ⊎ (IsTrue told → IsUnfit m text)
+HasCause m told text before now (Refused (TooLong file)) = IsBuilt m × (file ≡ m.net) × (IsTrue told → length_limit < length text)
+HasCause m told text before now (Refused (TooLarge operators)) = IsBuilt m × (IsTrue told → (length text ≤ length_limit) × IsTooLarge text m.order operators)
+HasCause m told text before now (Refused NotBuilt) = (IsBuilt m → Prim.⊥) ⊎ (IsTrue told → (length text ≤ length_limit) × IsNotFirst text)
 
 -- the program's exit status for each answer
 abbrev pub status_of : Ended → ℕ
@@ -46,17 +50,9 @@ status_of (ReadFault file) = 3
 status_of (WriteFault file) = 4
 status_of Memory = 5
 status_of PrintFault = 6
+status_of (Refused (TooLong file)) = 10
+status_of (Refused (TooLarge operators)) = 23
 status_of (Refused NotBuilt) = 31
-
--- the answer says that nothing was begun
-abbrev pub IsRefusal : Ended → Type 0
-IsRefusal Usage = Unit {0}
-IsRefusal (ReadFault file) = Unit {0}
-IsRefusal (Refused refusal) = Unit {0}
-IsRefusal _ = Prim.⊥
-
-abbrev pub counts : (reads writes prints : ℕ) → Counts
-counts reads writes prints = record { reads = reads; writes = writes; prints = prints }
 
 -- how the writing of one file may fail
 abbrev pub IsWriteEnd : List ℕ → (before now : ℕ) → Ended → Type 0
@@ -89,23 +85,60 @@ IsDelivery out w0 w1 p0 p1 _ = Prim.⊥
 abbrev pub IsReadEnd : List ℕ → Bool → List ℕ → (before now : ℕ) → Ended → Type 0
 IsReadEnd net told text before now (ReadFault file) = (file ≡ net) × Rose before now
 IsReadEnd net told text before now Memory = Unit {0}
-IsReadEnd net told text before now (Refused NotBuilt) = IsTrue told → length_limit < length text
+IsReadEnd net told text before now (Refused (TooLong file)) = (file ≡ net) × (IsTrue told → length_limit < length text)
 IsReadEnd net told text before now _ = Prim.⊥
 
 -- names other than the two outputs hold what they held
 abbrev pub OthersKeep : List ℕ → Contents → Contents → Type 0
 OthersKeep out old new = (name : List ℕ) → name ≢ out → name ≢ report_name out → new name ≡ old name
 
--- OUT and the report's file hold what masks the text that NET held, and this line goes with them
-pub record Leaves (m : Mask) (old new : Contents) (line : List ℕ) : Type 0 where
-  pub out : List ℕ
-  pub file : List ℕ
-  pub out_held : new m.out ≡ Some out
-  pub file_held : new (report_name m.out) ≡ Some file
-  pub masks : Masks (text_of (old m.net)) m.order out file line
+-- both outputs hold their whole texts
+pub record LeftWhole (out net report : List ℕ) (new : Contents) : Type 0 where
+  pub net_held : new out ≡ Some net
+  pub report_held : new (report_name out) ≡ Some report
 
--- After `Done` the outputs are left whole where the shelf tells them, and the line is printed where the sink tells what it takes.
-pub record HasDone (m : Mask) (shelf_tells : Bool) (old new : Contents) (sink_tells : Bool) (before now : List ℕ) : Type 0 where
+-- each output holds what it held or some first bytes of its text, and the report has changed only where the netlist is whole
+pub record LeftPart (out net report : List ℕ) (old new : Contents) : Type 0 where
+  pub net_left : IsFrontOrOld net (old out) (new out)
+  pub report_left : IsFrontOrOld report (old (report_name out)) (new (report_name out))
+  pub in_order : (new (report_name out) ≡ old (report_name out)) ⊎ (new out ≡ Some net)
+
+-- What is left of the three texts after each answer, of the files where the shelf tells its contents, and of the line where the sink
+-- tells what it takes.
+abbrev pub Leaves : (out net report line : List ℕ) → Bool → Contents → Contents → Bool → (before now : List ℕ) → Ended → Type 0
+Leaves out net report line told old new heard before now Done = (IsTrue told → LeftWhole out net report new) × (IsTrue heard → now ≡ before ++ line)
+Leaves out net report line told old new heard before now PrintFault = (IsTrue told → LeftWhole out net report new) × (IsTrue heard → TakesFront line before now)
+Leaves out net report line told old new heard before now (WriteFault file) = (IsTrue told → LeftPart out net report old new) × (now ≡ before)
+Leaves out net report line told old new heard before now Memory = (IsTrue told → LeftPart out net report old new) × (IsTrue heard → TakesFront line before now)
+Leaves out net report line told old new heard before now _ = Prim.⊥
+
+-- what is left of the texts that mask the netlist, where the shelf tells that
+pub record LeavesMasked (m : Mask) (told : Bool) (old new : Contents) (heard : Bool) (before now : List ℕ) (ended : Ended) : Type 0 where
+  pub net : List ℕ
+  pub report : List ℕ
   pub line : List ℕ
-  pub leaves : IsTrue shelf_tells → Leaves m old new line
-  pub printed : IsTrue sink_tells → now ≡ before ++ line
+  pub masks : IsTrue told → Masks (text_of (old m.net)) m.order net report line
+  pub leaves : Leaves m.out net report line told old new heard before now ended
+
+-- no name's text has changed, and nothing was printed
+pub record LeavesAll (old new : Contents) (before now : List ℕ) : Type 0 where
+  pub held : AllStay old new
+  pub printed : now ≡ before
+
+-- What each answer leaves: all as it was, or the texts that mask the netlist or first parts of them.
+abbrev pub HasLeft : Mask → Bool → Contents → Contents → Bool → (before now : List ℕ) → Ended → Type 0
+HasLeft m told old new heard before now Usage = LeavesAll old new before now
+HasLeft m told old new heard before now (ReadFault file) = LeavesAll old new before now
+HasLeft m told old new heard before now (Refused refusal) = LeavesAll old new before now
+HasLeft m told old new heard before now Memory = LeavesAll old new before now ⊎ LeavesMasked m told old new heard before now Memory
+HasLeft m told old new heard before now Done = LeavesMasked m told old new heard before now Done
+HasLeft m told old new heard before now PrintFault = LeavesMasked m told old new heard before now PrintFault
+HasLeft m told old new heard before now (WriteFault file) = LeavesMasked m told old new heard before now (WriteFault file)
+
+-- the same over each step of a run, for the steps that write nothing
+abbrev pub IsUntouched : Ended → Type 0
+IsUntouched Usage = Unit {0}
+IsUntouched (ReadFault file) = Unit {0}
+IsUntouched (Refused refusal) = Unit {0}
+IsUntouched Memory = Unit {0}
+IsUntouched _ = Prim.⊥

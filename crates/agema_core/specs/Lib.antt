@@ -4,3 +4,5 @@ pub mod Operators
 pub mod Masks
 pub mod Answer
 pub mod Command
+pub mod Explained
+pub mod Masking

@@ -10,7 +10,10 @@ use Rattle.share_wiring.specs.Same.{Same}
 use Rattle.small_net.specs.Texts.{StatesFirst, StatesNet}
 use Rattle.masked_writer.specs.Report.{report_text}
 use Rattle.agema_core.specs.Line.{mask_line}
-use Rattle.agema_core.specs.Operators.{size_of}
+use Rattle.small_text.specs.declared.small.Small.{Small}
+use Rattle.small_text.specs.Grammar.{Spelled}
+use Rattle.small_net.specs.FirstForm.{IsFirstForm}
+use Rattle.agema_core.specs.Operators.{operators_of, size_of}
 
 -- the greatest size that is masked
 abbrev pub size_limit : ℕ
@@ -44,9 +47,14 @@ pub record Masks (text : List ℕ) (order : ℕ) (out file line : List ℕ) : Ty
 abbrev pub CanMask : List ℕ → ℕ → Type 0
 CanMask text order = (original : PlainNet) × (marks : List Mark) × StatesFirst text original marks × (size_of original order ≤ size_limit)
 
--- each net that the text states in the first form is above the limit: if it is of that form at all
-abbrev pub CannotMask : List ℕ → ℕ → Type 0
-CannotMask text order = (original : PlainNet) (marks : List Mark) → StatesFirst text original marks → size_limit < size_of original order
+-- the text is not of the first form
+abbrev pub IsNotFirst : List ℕ → Type 0
+IsNotFirst text = (s : Small) → Spelled text s → IsFirstForm s → Prim.⊥
+
+-- the text is of the first form and states a net with so many operators, too many at the order
+abbrev pub IsTooLarge : List ℕ → ℕ → ℕ → Type 0
+IsTooLarge text order operators =
+    (original : PlainNet) × (marks : List Mark) × StatesFirst text original marks × (operators ≡ operators_of original) × (size_limit < size_of original order)
 
 -- the file of the report stands beside OUT
 abbrev pub report_name : List ℕ → List ℕ

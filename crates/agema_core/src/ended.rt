@@ -1,6 +1,8 @@
-ghost use Rattle.std.specs.Prelude.{◌≡◌};
+ghost use Rattle.std.specs.Prelude.{◌≡◌, ◌++◌, IfOk, codes};
+ghost use Rattle.std.specs.Fmt.{decimal};
 
-use agm_bits::Name;
+use agm_bits::{Memory, Name};
+use std::alloc::Global;
 
 /// How a run ended.
 #[derive(Debug, Drop)]
@@ -22,14 +24,37 @@ pub enum Ended {
 }
 
 /// Why an input is refused.
-#[derive(Clone, Copy, Debug, PartialEq, Eq)]
+#[derive(Debug, Drop)]
 pub enum Refusal {
+    /// A file is longer than 2^28 bytes.
+    TooLong { file: Name },
+    /// The operators of the net times shares squared exceed 2^16.
+    TooLarge { operators: usize },
     /// It asks for what isn't built yet.
     NotBuilt,
 }
 
+// A line with a file's name at its end.
+fn file_line(alloc: Global, front: &[u8], file: &Name) -> Result<Name, Memory>
+    ensures { IfOk result (λ line. line ≡ front.now ++ (file.now ++ codes "\n")) }
+{
+    let mut line = Name::from_slice(alloc, front)?;
+    line.extend(file.as_slice())?;
+    line.extend(b"\n")?;
+    Ok(line)
+}
+
+// The line of a net that is too large.
+fn size_line(alloc: Global, operators: usize) -> Result<Name, Memory>
+    ensures { IfOk result (λ line. line ≡ codes "status 23 TooLarge operators=" ++ (decimal operators ++ codes "\n")) }
+{
+    let line = format!(in alloc; "status 23 TooLarge operators={operators}\n")?;
+    Name::from_slice(alloc, line.as_bytes())
+}
+
 impl Ended {
     ghost use Rattle.agema_core.specs.Answer.{status_of};
+    ghost use Rattle.agema_core.specs.Explained.{explained};
 
     /// The program's exit status.
     pub fn status(&self) -> u8
@@ -42,7 +67,28 @@ impl Ended {
             Ended::WriteFault { .. } => 4,
             Ended::Memory => 5,
             Ended::PrintFault => 6,
+            Ended::Refused(Refusal::TooLong { .. }) => 10,
+            Ended::Refused(Refusal::TooLarge { .. }) => 23,
             Ended::Refused(Refusal::NotBuilt) => 31,
+        }
+    }
+
+    /// The line that the program prints on standard error: `status`, the number, the answer's name, and its fields.
+    pub fn explain(&self, alloc: Global) -> Result<Name, Memory>
+        ensures { IfOk result (λ line. line ≡ explained self.now) }
+    {
+        match self {
+            Ended::Done => Name::from_slice(alloc, b"status 0 Done\n"),
+            Ended::Usage => Name::from_slice(alloc, b"status 2 Usage\n"),
+            Ended::ReadFault { file } => file_line(alloc, b"status 3 ReadFault file=", file),
+            Ended::WriteFault { file } => file_line(alloc, b"status 4 WriteFault file=", file),
+            Ended::Memory => Name::from_slice(alloc, b"status 5 Memory\n"),
+            Ended::PrintFault => Name::from_slice(alloc, b"status 6 PrintFault\n"),
+            Ended::Refused(Refusal::TooLong { file }) => {
+                file_line(alloc, b"status 10 TooLong file=", file)
+            }
+            Ended::Refused(Refusal::TooLarge { operators }) => size_line(alloc, *operators),
+            Ended::Refused(Refusal::NotBuilt) => Name::from_slice(alloc, b"status 31 NotBuilt\n"),
         }
     }
 }

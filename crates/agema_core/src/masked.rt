@@ -1,15 +1,15 @@
-ghost use Rattle.std.specs.Prelude.{◌≡◌, ◌≤◌, IfOk, MatchOption, string_bytes};
+ghost use Rattle.std.specs.Prelude.{◌≡◌, ◌≤◌, IfOk, string_bytes};
 ghost use Rattle.agm_net.specs.View.{plain_of};
 ghost use Rattle.agm_net.specs.Simple.{IsSimple};
-ghost use Rattle.agema_core.specs.Masks.{Masks, MasksNet, CannotMask};
+ghost use Rattle.agema_core.specs.Masks.{MasksNet};
+ghost use Rattle.agema_core.specs.Masking.{IsMasking, IsMaskingOf};
 
 use crate::line::mask_line;
-use crate::size::is_too_large;
+use crate::size::{exceeds, simple_operators};
 use agm_bits::{Memory, Name};
 use masked_writer::report_text;
 use share_wiring::mask_simple;
 use small_net::{Original, first_is_simple, read_first, write_net};
-use small_text::one_small;
 use std::alloc::Global;
 
 /// What `mask` leaves: the masked netlist, the report, and the printed line.
@@ -34,21 +34,40 @@ fn texts_of(alloc: Global, original: &Original, order: u32) -> Result<Texts, Mem
     Ok(Texts { net, report, line })
 }
 
-/// The texts for a netlist, None exactly where it is not of the first form or its net is too large.
-pub(crate) fn masked_texts(alloc: Global, bytes: &[u8], order: u32) -> Result<Option<Texts>, Memory>
+/// What masking a netlist gives.
+#[derive(Debug, Drop)]
+pub(crate) enum Masking {
+    Made(Texts),
+    /// It is not of the first form.
+    NotFirst,
+    /// Its net has so many operators, too many.
+    TooLarge(usize),
+}
+
+// The texts for a net that was read, where it is not too large.
+fn masking_of(alloc: Global, original: &Original, order: u32) -> Result<Masking, Memory>
+    requires simple { IsSimple (plain_of original.now.net) original.now.marks.kinds }
     requires first { 1 ≤ order }
     requires last { order ≤ 7 }
-    ensures { IfOk result (λ o. MatchOption o (CannotMask bytes.now order) (λ t. Masks bytes.now order t.net (string_bytes t.report) (string_bytes t.line))) }
+    ensures { IfOk result (IsMaskingOf (plain_of original.now.net) original.now.marks.kinds order) }
 {
-    one_small();
+    let operators = simple_operators(&original.net);
+    if exceeds(operators, order) {
+        return Ok(Masking::TooLarge(operators));
+    }
+    Ok(Masking::Made(texts_of(alloc, original, order)?))
+}
+
+/// The texts for a netlist, unless it is not of the first form or its net is too large.
+pub(crate) fn masked_texts(alloc: Global, bytes: &[u8], order: u32) -> Result<Masking, Memory>
+    requires first { 1 ≤ order }
+    requires last { order ≤ 7 }
+    ensures { IfOk result (IsMasking bytes.now order) }
+{
     first_is_simple();
     let found = read_first(alloc, bytes)?;
-    let original = match found {
-        Some(original) => original,
-        None => return Ok(None),
-    };
-    if is_too_large(&original.net, order) {
-        return Ok(None);
+    match found {
+        Some(original) => masking_of(alloc, &original, order),
+        None => Ok(Masking::NotFirst),
     }
-    Ok(Some(texts_of(alloc, &original, order)?))
 }

@@ -1,12 +1,12 @@
 ghost use Rattle.std.specs.Prelude.{◌≡◌, ◌≢◌, ◌⊎◌, ◌≤◌, ◌++◌, ℕ, List, IsTrue, Some, None, Ok, Err, OnOk, OnErr, IfErr, IfOk, length, map, string_bytes, ◌↔◌, codes};
-ghost use Rattle.agm_shelf.specs.Shelf.{AllStay, OthersStay, Continues, text_of};
+ghost use Rattle.agm_shelf.specs.Shelf.{AllStay, OthersStay, Continues, IsFrontOrOld, TakesFront, text_of};
 ghost use Rattle.agema_core.specs.Words.{Mask, IsMask, IsOrder};
 ghost use Rattle.agema_core.specs.Command.{mask_of};
-ghost use Rattle.agema_core.specs.Masks.{Masks, report_name, length_limit};
-ghost use Rattle.agema_core.specs.Answer.{HasCause, IsRefusal, IsBuilt, Leaves, IsWriteEnd, IsWritesEnd, IsReadEnd, IsPrintEnd, IsDelivery, HasDone, OthersKeep, counts};
+ghost use Rattle.agema_core.specs.Masks.{report_name, length_limit};
+ghost use Rattle.agema_core.specs.Answer.{HasCause, IsBuilt, IsWriteEnd, IsWritesEnd, IsReadEnd, IsPrintEnd, IsDelivery, Leaves, LeftWhole, LeftPart, HasLeft, LeavesAll, OthersKeep, IsUntouched, counts};
 
 use crate::ended::{Ended, Refusal};
-use crate::masked::{Texts, masked_texts};
+use crate::masked::{Masking, Texts, masked_texts};
 use crate::words::{Command, read_command};
 use agm_bits::{Memory, Name};
 use agm_shelf::{PutEnd, ReadEnd, Shelf, Sink, write_whole};
@@ -36,6 +36,16 @@ fn write_fault(alloc: Global, name: &str) -> Ended
     }
 }
 
+// A file that is too long.
+fn too_long(alloc: Global, name: &str) -> Ended
+    ensures { (result ≡ Ended.Memory) ⊎ (result ≡ Ended.Refused (Refusal.TooLong name.now)) }
+{
+    match Name::from_slice(alloc, name.as_bytes()) {
+        Ok(file) => Ended::Refused(Refusal::TooLong { file }),
+        Err(_) => Ended::Memory,
+    }
+}
+
 // The name of the report's file.
 fn report_file(alloc: Global, out: &str) -> Result<String, Memory>
     ensures { IfOk result (λ s. string_bytes s ≡ report_name out.now) }
@@ -56,6 +66,7 @@ fn write_file<H: Shelf>(alloc: Global, shelf: &mut H, name: &str, text: &[u8]) -
     requires { H.pending shelf.old ≡ None }
     ensures pending { H.pending shelf.new ≡ None }
     ensures ok { OnOk result (IsTrue (H.tells shelf.old) → H.holds shelf.new name.now ≡ Some text.now) }
+    ensures front { OnErr result (IsTrue (H.tells shelf.old) → IsFrontOrOld text.now (H.holds shelf.old name.now) (H.holds shelf.new name.now)) }
     ensures err { IfErr result (IsWriteEnd name.now (H.write_faults shelf.old) (H.write_faults shelf.new)) }
     ensures others { OthersStay name.now (H.holds shelf.old) (H.holds shelf.new) }
     ensures goes_on { Continues H.tells H.sound H.read_faults H.write_faults shelf.old shelf.new }
@@ -76,8 +87,8 @@ fn write_files<H: Shelf>(
 ) -> Result<(), Ended>
     requires { H.pending shelf.old ≡ None }
     ensures pending { H.pending shelf.new ≡ None }
-    ensures net { OnOk result (IsTrue (H.tells shelf.old) → H.holds shelf.new out.now ≡ Some texts.now.net) }
-    ensures report { OnOk result (IsTrue (H.tells shelf.old) → H.holds shelf.new (report_name out.now) ≡ Some (string_bytes texts.now.report)) }
+    ensures whole { OnOk result (IsTrue (H.tells shelf.old) → LeftWhole out.now texts.now.net (string_bytes texts.now.report) (H.holds shelf.new)) }
+    ensures part { OnErr result (IsTrue (H.tells shelf.old) → LeftPart out.now texts.now.net (string_bytes texts.now.report) (H.holds shelf.old) (H.holds shelf.new)) }
     ensures err { IfErr result (IsWritesEnd out.now (H.write_faults shelf.old) (H.write_faults shelf.new)) }
     ensures others { OthersKeep out.now (H.holds shelf.old) (H.holds shelf.new) }
     ensures goes_on { Continues H.tells H.sound H.read_faults H.write_faults shelf.old shelf.new }
@@ -93,8 +104,8 @@ fn write_files<H: Shelf>(
 // Prints the line.
 fn print_line<K: Sink>(sink: &mut K, line: &str) -> Ended
     ensures done { result ≡ Ended.Done → IsTrue (K.tells sink.old) → K.taken sink.new ≡ K.taken sink.old ++ line.now }
+    ensures front { result ≢ Ended.Done → IsTrue (K.tells sink.old) → TakesFront line.now (K.taken sink.old) (K.taken sink.new) }
     ensures end { IsPrintEnd (K.faults sink.old) (K.faults sink.new) result }
-    ensures goes_on { Continues K.tells K.sound K.faults K.faults sink.old sink.new }
 {
     match sink.put(line.as_bytes()) {
         Ok(()) => Ended::Done,
@@ -110,13 +121,14 @@ fn read_netlist<H: Shelf>(alloc: Global, shelf: &mut H, net: &str) -> Result<Vec
     ensures ok { IfOk result (λ v. IsTrue (H.tells shelf.old) → H.holds shelf.old net.now ≡ Some v.items) }
     ensures within { IfOk result (λ v. length v.items ≤ length_limit) }
     ensures err { IfErr result (IsReadEnd net.now (H.tells shelf.old) (text_of (H.holds shelf.old net.now)) (H.read_faults shelf.old) (H.read_faults shelf.new)) }
+    ensures untouched { IfErr result IsUntouched }
     ensures same { AllStay (H.holds shelf.old) (H.holds shelf.new) }
     ensures goes_on { Continues H.tells H.sound H.read_faults H.write_faults shelf.old shelf.new }
 {
     match shelf.read(alloc, net, LENGTH_LIMIT) {
         Ok(bytes) => Ok(bytes),
         Err(ReadEnd::Failed) => Err(read_fault(alloc, net)),
-        Err(ReadEnd::TooLong { .. }) => Err(Ended::Refused(Refusal::NotBuilt)),
+        Err(ReadEnd::TooLong { .. }) => Err(too_long(alloc, net)),
         Err(ReadEnd::Memory) => Err(Ended::Memory),
     }
 }
@@ -131,9 +143,7 @@ fn deliver<H: Shelf, K: Sink>(
 ) -> Ended
     requires { H.pending shelf.old ≡ None }
     ensures pending { H.pending shelf.new ≡ None }
-    ensures net { result ≡ Ended.Done → IsTrue (H.tells shelf.old) → H.holds shelf.new out.now ≡ Some texts.now.net }
-    ensures report { result ≡ Ended.Done → IsTrue (H.tells shelf.old) → H.holds shelf.new (report_name out.now) ≡ Some (string_bytes texts.now.report) }
-    ensures line { result ≡ Ended.Done → IsTrue (K.tells sink.old) → K.taken sink.new ≡ K.taken sink.old ++ string_bytes texts.now.line }
+    ensures left { Leaves out.now texts.now.net (string_bytes texts.now.report) (string_bytes texts.now.line) (H.tells shelf.old) (H.holds shelf.old) (H.holds shelf.new) (K.tells sink.old) (K.taken sink.old) (K.taken sink.new) result }
     ensures end { IsDelivery out.now (H.write_faults shelf.old) (H.write_faults shelf.new) (K.faults sink.old) (K.faults sink.new) result }
     ensures others { OthersKeep out.now (H.holds shelf.old) (H.holds shelf.new) }
     ensures goes_on { Continues H.tells H.sound H.read_faults H.write_faults shelf.old shelf.new }
@@ -154,7 +164,7 @@ fn mask<H: Shelf, K: Sink>(
     requires pending { H.pending shelf.old ≡ None }
     requires order { IsOrder command.now.order }
     ensures pending { H.pending shelf.new ≡ None }
-    ensures done { result ≡ Ended.Done → HasDone (mask_of command.now) (H.tells shelf.old) (H.holds shelf.old) (H.holds shelf.new) (K.tells sink.old) (K.taken sink.old) (K.taken sink.new) }
+    ensures left { HasLeft (mask_of command.now) (H.tells shelf.old) (H.holds shelf.old) (H.holds shelf.new) (K.tells sink.old) (K.taken sink.old) (K.taken sink.new) result }
     ensures cause { HasCause (mask_of command.now) (H.tells shelf.old) (text_of (H.holds shelf.old command.now.net.now)) (counts (H.read_faults shelf.old) (H.write_faults shelf.old) (K.faults sink.old)) (counts (H.read_faults shelf.new) (H.write_faults shelf.new) (K.faults sink.new)) result }
     ensures others { OthersKeep command.now.out.now (H.holds shelf.old) (H.holds shelf.new) }
 {
@@ -166,8 +176,9 @@ fn mask<H: Shelf, K: Sink>(
         Err(ended) => return ended,
     };
     match masked_texts(alloc, bytes.as_slice(), command.order) {
-        Ok(Some(texts)) => deliver(alloc, command.out, &texts, shelf, sink),
-        Ok(None) => Ended::Refused(Refusal::NotBuilt),
+        Ok(Masking::Made(texts)) => deliver(alloc, command.out, &texts, shelf, sink),
+        Ok(Masking::NotFirst) => Ended::Refused(Refusal::NotBuilt),
+        Ok(Masking::TooLarge(operators)) => Ended::Refused(Refusal::TooLarge { operators }),
         Err(_) => Ended::Memory,
     }
 }
@@ -178,7 +189,8 @@ pub fn run<H: Shelf, K: Sink>(alloc: Global, words: &[String], shelf: &mut H, ou
     requires { H.pending shelf.old ≡ None }
     ensures pending { H.pending shelf.new ≡ None }
     ensures usage { (result ≡ Ended.Usage) ↔ ((m : Mask) → IsMask (map string_bytes words.now) m → ⊥) }
-    ensures done { result ≡ Ended.Done → (m : Mask) → IsMask (map string_bytes words.now) m → HasDone m (H.tells shelf.old) (H.holds shelf.old) (H.holds shelf.new) (K.tells out.old) (K.taken out.old) (K.taken out.new) }
+    ensures refused { result ≡ Ended.Usage → LeavesAll (H.holds shelf.old) (H.holds shelf.new) (K.taken out.old) (K.taken out.new) }
+    ensures left { (m : Mask) → IsMask (map string_bytes words.now) m → HasLeft m (H.tells shelf.old) (H.holds shelf.old) (H.holds shelf.new) (K.tells out.old) (K.taken out.old) (K.taken out.new) result }
     ensures cause { (m : Mask) → IsMask (map string_bytes words.now) m → HasCause m (H.tells shelf.old) (text_of (H.holds shelf.old m.net)) (counts (H.read_faults shelf.old) (H.write_faults shelf.old) (K.faults out.old)) (counts (H.read_faults shelf.new) (H.write_faults shelf.new) (K.faults out.new)) result }
     ensures others { (m : Mask) → IsMask (map string_bytes words.now) m → OthersKeep m.out (H.holds shelf.old) (H.holds shelf.new) }
 {

@@ -1,8 +1,10 @@
-ghost use Rattle.std.specs.Prelude.{◌≡◌, ◌+◌, ◌-◌, ◌*◌, ◌^◌, ◌<◌, ◌≤◌, ◌↔◌, min, sum_by, length, IsTrue};
+ghost use Rattle.std.specs.Prelude.{◌≡◌, ◌+◌, ◌-◌, ◌*◌, ◌^◌, ◌<◌, ◌≤◌, ◌↔◌, min, sum_by, length, IsTrue, []};
 ghost use Rattle.agm_net.specs.Formula.{formula_of};
 ghost use Rattle.agm_net.specs.View.{plain_of};
 ghost use Rattle.agema_core.specs.Operators as spec;
+ghost use Rattle.agm_net.specs.Simple.{IsLinear};
 ghost use Rattle.agema_core.specs.Masks.{size_limit};
+ghost use Rattle.std.specs.List.{AllByRecursion};
 
 use agm_net::{Equation, Expr, Net, Register};
 
@@ -47,8 +49,8 @@ fn register_operators(registers: &[Register]) -> usize
     count
 }
 
-// Whether so many operators are above the limit at an order.
-fn exceeds(operators: usize, order: u32) -> bool
+/// Whether so many operators are above the limit at an order.
+pub(crate) fn exceeds(operators: usize, order: u32) -> bool
     requires { order ≤ 7 }
     ensures { IsTrue result ↔ (size_limit < operators * ((order + 1) * (order + 1))) }
 {
@@ -59,12 +61,21 @@ fn exceeds(operators: usize, order: u32) -> bool
     }
 }
 
-/// Whether a net is too large to be masked at an order.
-pub(crate) fn is_too_large(net: &Net, order: u32) -> bool
-    requires { order ≤ 7 }
-    ensures { IsTrue result ↔ (size_limit < spec.size_of (plain_of net.now) order) }
+/// The operators of a net. The count stays at the type's end.
+pub(crate) fn count_operators(net: &Net) -> usize
+    ensures { result ≡ min (spec.operators_of (plain_of net.now)) (2 ^ 64 - 1) }
 {
     let equations = equation_operators(net.equations.as_slice());
     let registers = register_operators(net.registers.as_slice());
-    exceeds(equations.saturating_add(registers), order)
+    equations.saturating_add(registers)
+}
+
+/// The operators of a simple net: one in each equation at the most, so that they are fewer than its equations can be.
+pub(crate) fn simple_operators(net: &Net) -> usize
+    requires linear { AllByRecursion (λ l. IsLinear l.1) (plain_of net.now).lines }
+    requires registers { (plain_of net.now).registers ≡ [] }
+    ensures { result ≡ spec.operators_of (plain_of net.now) }
+{
+    let _equations = net.equations.len();
+    count_operators(net)
 }

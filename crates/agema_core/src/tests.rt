@@ -1,7 +1,9 @@
 //! Tests of the commands, over files and outputs in memory, and of masked nets beside their originals.
 
 mod evaluator;
+mod explained;
 mod faults;
+mod limits;
 mod line;
 mod masked_nets;
 mod refusals;

@@ -7,14 +7,19 @@ use std::test::Fail;
 
 /// The shelf's call that fails, how the command ends, and what its two files hold then.
 const SHELF_FAULTS: [(usize, &str, &str, &str); 8] = [
-    (0, "read n.v", "old net", "old report"),
-    (1, "write o.v", "old net", "old report"),
-    (2, "write o.v", "", "old report"),
-    (3, "write o.v", MASKED, "old report"),
-    (4, "write o.v.json", MASKED, "old report"),
-    (5, "write o.v.json", MASKED, ""),
-    (6, "write o.v.json", MASKED, REPORT),
-    (7, "done", MASKED, REPORT),
+    (0, "status 3 ReadFault file=n.v\n", "old net", "old report"),
+    (1, "status 4 WriteFault file=o.v\n", "old net", "old report"),
+    (2, "status 4 WriteFault file=o.v\n", "", "old report"),
+    (3, "status 4 WriteFault file=o.v\n", MASKED, "old report"),
+    (
+        4,
+        "status 4 WriteFault file=o.v.json\n",
+        MASKED,
+        "old report",
+    ),
+    (5, "status 4 WriteFault file=o.v.json\n", MASKED, ""),
+    (6, "status 4 WriteFault file=o.v.json\n", MASKED, REPORT),
+    (7, "status 0 Done\n", MASKED, REPORT),
 ];
 
 #[test]
@@ -42,7 +47,7 @@ fn tells_a_missing_file(rt: HostRuntime) -> Result<(), Fail> {
     let mut shelf = MemoryShelf::new(alloc);
     let mut sink = MemorySink::new(alloc);
     let end = end_of(alloc, "mask - no.v 2 naive pipe o.v", &mut shelf, &mut sink)?;
-    assert_eq!(rt; end.as_str(), "read no.v");
+    assert_eq!(rt; end.as_str(), "status 3 ReadFault file=no.v\n");
     assert_eq!(rt; text_at(&shelf, "o.v")?, "-");
     Ok(())
 }
@@ -55,12 +60,12 @@ fn tells_a_fault_of_the_output(rt: HostRuntime) -> Result<(), Fail> {
     shelf.hold("n.v", TWO_CELLS.as_bytes())?;
     sink.fail(0)?;
     let end = end_of(alloc, "mask - n.v 2 naive pipe o.v", &mut shelf, &mut sink)?;
-    assert_eq!(rt; end.as_str(), "print");
+    assert_eq!(rt; end.as_str(), "status 6 PrintFault\n");
     assert!(rt; sink.taken().is_empty());
     assert_eq!(rt; text_at(&shelf, "o.v")?, MASKED);
     assert_eq!(rt; text_at(&shelf, "o.v.json")?, REPORT);
     let end = end_of(alloc, "mask - n.v 2 naive pipe o.v", &mut shelf, &mut sink)?;
-    assert_eq!(rt; end.as_str(), "done");
+    assert_eq!(rt; end.as_str(), "status 0 Done\n");
     assert_eq!(rt; sink.taken(), LINE.as_bytes());
     Ok(())
 }

@@ -3,7 +3,7 @@
 ghost use Rattle.std.specs.Prelude.{◌≡◌, None};
 ghost use Rattle.agm_shelf.specs.MemoryShelf.{open_name};
 
-use crate::{Ended, Refusal, run};
+use crate::{Ended, run};
 use agm_shelf::{MemoryShelf, MemorySink};
 use std::alloc::{AllocError, Global};
 use std::str::from_utf8;
@@ -18,26 +18,13 @@ fn words_of(alloc: Global, line: &str) -> Result<Vec<String>, AllocError> {
     Ok(words)
 }
 
-// An end in words.
+// The line that tells an end.
 fn told(alloc: Global, ended: &Ended) -> Result<String, Fail> {
-    Ok(match ended {
-        Ended::Done => format!(in alloc; "done")?,
-        Ended::Usage => format!(in alloc; "usage")?,
-        Ended::ReadFault { file } => {
-            let name = from_utf8(file.as_slice())?;
-            format!(in alloc; "read {name}")?
-        }
-        Ended::WriteFault { file } => {
-            let name = from_utf8(file.as_slice())?;
-            format!(in alloc; "write {name}")?
-        }
-        Ended::PrintFault => format!(in alloc; "print")?,
-        Ended::Memory => format!(in alloc; "memory")?,
-        Ended::Refused(Refusal::NotBuilt) => format!(in alloc; "not built")?,
-    })
+    let line = ended.explain(alloc)?;
+    Ok(String::from_str(alloc, from_utf8(line.as_slice())?)?)
 }
 
-// Runs the command of a line, and tells its end in words.
+// Runs the command of a line, and answers the line that tells its end.
 pub(crate) fn end_of(
     alloc: Global,
     line: &str,
@@ -45,6 +32,7 @@ pub(crate) fn end_of(
     sink: &mut MemorySink,
 ) -> Result<String, Fail>
     requires { open_name shelf.old ≡ None }
+    ensures { open_name shelf.new ≡ None }
 {
     let words = words_of(alloc, line)?;
     let ended = run(alloc, words.as_slice(), shelf, sink);

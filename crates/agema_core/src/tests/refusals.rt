@@ -7,17 +7,17 @@ use std::test::Fail;
 
 /// Lines whose words are no command, or ask for what isn't built.
 const REFUSED_LINES: [(&str, &str); 11] = [
-    ("", "usage"),
-    ("mask", "usage"),
-    ("unmask - n.v 2 naive pipe o.v", "usage"),
-    ("mask - n.v 2 naive pipe o.v more", "usage"),
-    ("mask - n.v 0 naive pipe o.v", "usage"),
-    ("mask - n.v 8 naive pipe o.v", "usage"),
-    ("mask - n.v 01 naive pipe o.v", "usage"),
-    ("mask - n.v 2 naive both o.v", "usage"),
-    ("mask l.lib n.v 2 naive pipe o.v", "not built"),
-    ("mask - n.v 2 aig pipe o.v", "not built"),
-    ("mask - n.v 2 naive gate o.v", "not built"),
+    ("", "status 2 Usage\n"),
+    ("mask", "status 2 Usage\n"),
+    ("unmask - n.v 2 naive pipe o.v", "status 2 Usage\n"),
+    ("mask - n.v 2 naive pipe o.v more", "status 2 Usage\n"),
+    ("mask - n.v 0 naive pipe o.v", "status 2 Usage\n"),
+    ("mask - n.v 8 naive pipe o.v", "status 2 Usage\n"),
+    ("mask - n.v 01 naive pipe o.v", "status 2 Usage\n"),
+    ("mask - n.v 2 naive both o.v", "status 2 Usage\n"),
+    ("mask l.lib n.v 2 naive pipe o.v", "status 31 NotBuilt\n"),
+    ("mask - n.v 2 aig pipe o.v", "status 31 NotBuilt\n"),
+    ("mask - n.v 2 naive gate o.v", "status 31 NotBuilt\n"),
 ];
 
 /// Texts that are not of the first form.
@@ -54,7 +54,7 @@ fn refuses_texts(rt: HostRuntime) -> Result<(), Fail> {
         let mut sink = MemorySink::new(alloc);
         shelf.hold("n.v", text.as_bytes())?;
         let end = end_of(alloc, "mask - n.v 2 naive pipe o.v", &mut shelf, &mut sink)?;
-        assert_eq!(rt; end.as_str(), "not built", "{text}");
+        assert_eq!(rt; end.as_str(), "status 31 NotBuilt\n", "{text}");
         assert_eq!(rt; text_at(&shelf, "o.v")?, "-", "{text}");
         assert_eq!(rt; text_at(&shelf, "o.v.json")?, "-", "{text}");
         assert!(rt; sink.taken().is_empty(), "{text}");

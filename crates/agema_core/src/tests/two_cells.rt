@@ -49,7 +49,7 @@ fn masks_two_cells(rt: HostRuntime) -> Result<(), Fail> {
     let mut sink = MemorySink::new(alloc);
     shelf.hold("n.v", TWO_CELLS.as_bytes())?;
     let end = end_of(alloc, "mask - n.v 2 naive pipe o.v", &mut shelf, &mut sink)?;
-    assert_eq!(rt; end.as_str(), "done");
+    assert_eq!(rt; end.as_str(), "status 0 Done\n");
     assert_eq!(rt; sink.taken(), LINE.as_bytes());
     assert_eq!(rt; text_at(&shelf, "o.v")?, MASKED);
     assert_eq!(rt; text_at(&shelf, "o.v.json")?, REPORT);

@@ -1,7 +1,7 @@
 use Rattle.std.proofs.Common.{◌≡◌, Global, map, string_bytes, refl, sym, subst}
 use Rattle.agema_core.specs.Words.{Mask}
 use Rattle.agema_core.specs.Command.{mask_of}
-use Rattle.agema_core.specs.Answer.{HasCause, HasDone, OthersKeep, counts}
+use Rattle.agema_core.specs.Answer.{HasCause, HasLeft, OthersKeep, counts}
 use Rattle.agm_shelf.specs.Shelf.{text_of}
 use Rattle.agema_core.proofs.Commands.{command_read, read_command}
 use Rattle.agema_core.proofs.Ends.{not_usage}
@@ -22,12 +22,12 @@ returns-in-Some-clause-usage g c = (
   (λ none. absurd (none (mask_of c.in-Some.command) (read_command (map (string_bytes {Z = Global}) c.args.words.now) (mask_of c.in-Some.command) (sym c.in-Some.ensures)))),
 )
 
-pub returns-in-Some-clause-done : goal.returns-in-Some-clause-done
-returns-in-Some-clause-done g c = λ e m is.
+pub returns-in-Some-clause-left : goal.returns-in-Some-clause-left
+returns-in-Some-clause-left g c = λ m is.
     (let read = command_read (map (string_bytes {Z = Global}) c.args.words.now) m is in let some = c.in-Some.ensures in
     let same : mask_of c.in-Some.command ≡ m = cc in
-    let P : Mask → Type 0 = λ m. HasDone m (g.H.Shelf.tells c.args.shelf.now) (g.H.Shelf.holds c.args.shelf.now) (g.H.Shelf.holds c.mask.new.shelf) (g.K.Sink.tells c.args.out.now) (g.K.Sink.taken c.args.out.now) (g.K.Sink.taken c.mask.new.sink) in
-    subst P same (c.mask.ensures.done e))
+    let P : Mask → Type 0 = λ m. HasLeft m (g.H.Shelf.tells c.args.shelf.now) (g.H.Shelf.holds c.args.shelf.now) (g.H.Shelf.holds c.mask.new.shelf) (g.K.Sink.tells c.args.out.now) (g.K.Sink.taken c.args.out.now) (g.K.Sink.taken c.mask.new.sink) c.mask.result in
+    subst P same c.mask.ensures.left)
 
 pub returns-in-Some-clause-cause : goal.returns-in-Some-clause-cause
 returns-in-Some-clause-cause g c = λ m is.

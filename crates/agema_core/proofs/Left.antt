@@ -1,0 +1,98 @@
+-- What the steps of a run leave.
+use Rattle.std.proofs.Common.{◌≡◌, ◌≢◌, ◌+◌, ◌<◌, ◌++◌, ◌⊎◌, ℕ, List, [], ◌∷◌, Bool, IsTrue, Option, Some, Ok, Err, Result, OnErr, length, take, refl, sym, ap, subst, ◌∙◌, inl, inr, arith, codes, length-append}
+use Rattle.agm_shelf.specs.Shelf.{Contents, AllStay, IsFrontOrOld, TakesFront, text_of}
+use Rattle.agema_core.specs.Words.{Mask}
+use Rattle.agema_core.specs.Masks.{Masks, report_name}
+use Rattle.agema_core.specs.Answer.{IsPrintEnd, IsDelivery, LeftWhole, LeftPart, Leaves, LeavesMasked, HasLeft}
+use Rattle.agema_core.specs.declared.ended.Ended.{Ended}
+use Rattle.agema_core.specs.declared.ended.Ended.TheVariants.{Done, Usage, ReadFault, WriteFault, PrintFault, Memory, Refused}
+
+-- the report's name is another than OUT's
+pub another_name : (out : List ℕ) → report_name out ≢ out
+another_name out e = let longer : length (out ++ codes ".json") ≡ length out = ap length e in let sum = length-append out (codes ".json") in absurd (omega arith)
+
+all_taken : (xs : List ℕ) → take (length xs) xs ≡ xs
+all_taken [] = refl
+all_taken (x ∷ xs) = ap (λ ys. x ∷ ys) (all_taken xs)
+
+-- a whole text is one of its first parts
+whole_front : (text : List ℕ) (before now : Option (List ℕ)) → now ≡ Some text → IsFrontOrOld text before now
+whole_front text before now e = inr (length text, e ∙ ap (λ t. Some t) (sym (all_taken text)))
+
+-- both texts are whole, and so each is a first part
+pub whole_part : (out net report : List ℕ) (old new : Contents) → LeftWhole out net report new → LeftPart out net report old new
+whole_part out net report old new w = record {
+  net_left = whole_front net (old out) (new out) w.net_held;
+  report_left = whole_front report (old (report_name out)) (new (report_name out)) w.report_held;
+  in_order = inr w.net_held;
+}
+
+-- the netlist is whole, and the report's file may hold a first part
+pub net_part : (out net report : List ℕ) (old mid new : Contents) → mid out ≡ Some net → new out ≡ mid out → mid (report_name out) ≡ old (report_name out) → IsFrontOrOld report (mid (report_name out)) (new (report_name out)) → LeftPart out net report old new
+net_part out net report old mid new held kept same front =
+    let whole : new out ≡ Some net = kept ∙ held in
+    record {
+      net_left = whole_front net (old out) (new out) whole;
+      report_left = subst (λ before. IsFrontOrOld report before (new (report_name out))) same front;
+      in_order = inr whole;
+    }
+
+-- the print's end, behind files that are whole
+pub printed : (out net report line : List ℕ) (told : Bool) (old new : Contents) (heard : Bool) (before now : List ℕ) (f0 f1 : ℕ) (ended : Ended) → IsPrintEnd f0 f1 ended
+    → (IsTrue told → LeftWhole out net report new) → (ended ≡ Done → IsTrue heard → now ≡ before ++ line) → (ended ≢ Done → IsTrue heard → TakesFront line before now)
+    → Leaves out net report line told old new heard before now ended
+printed out net report line told old new heard before now f0 f1 Done end whole done front = (whole, done refl)
+printed out net report line told old new heard before now f0 f1 PrintFault end whole done front = (whole, front (λ e. cc))
+printed out net report line told old new heard before now f0 f1 Memory end whole done front = ((λ t. whole_part out net report old new (whole t)), front (λ e. cc))
+printed out net report line told old new heard before now f0 f1 Usage end whole done front = absurd end
+printed out net report line told old new heard before now f0 f1 (ReadFault file) end whole done front = absurd end
+printed out net report line told old new heard before now f0 f1 (WriteFault file) end whole done front = absurd end
+printed out net report line told old new heard before now f0 f1 (Refused refusal) end whole done front = absurd end
+
+-- contents that are the same at each name
+same_part : (out net report : List ℕ) (old mid new : Contents) → AllStay old mid → LeftPart out net report mid new → LeftPart out net report old new
+same_part out net report old mid new same p = record {
+  net_left = subst (λ before. IsFrontOrOld net before (new out)) (same out) p.net_left;
+  report_left = subst (λ before. IsFrontOrOld report before (new (report_name out))) (same (report_name out)) p.report_left;
+  in_order = elim p.in_order [ inl kept ↦ inl (kept ∙ same (report_name out)) | inr whole ↦ inr whole ];
+}
+
+same_leaves : (out net report line : List ℕ) (told : Bool) (old mid new : Contents) (heard : Bool) (before now : List ℕ) (ended : Ended) → AllStay old mid
+    → Leaves out net report line told mid new heard before now ended → Leaves out net report line told old new heard before now ended
+same_leaves out net report line told old mid new heard before now Done same h = h
+same_leaves out net report line told old mid new heard before now PrintFault same h = h
+same_leaves out net report line told old mid new heard before now (WriteFault file) same h = ((λ t. same_part out net report old mid new same (h.0 t)), h.1)
+same_leaves out net report line told old mid new heard before now Memory same h = ((λ t. same_part out net report old mid new same (h.0 t)), h.1)
+same_leaves out net report line told old mid new heard before now Usage same h = h
+same_leaves out net report line told old mid new heard before now (ReadFault file) same h = h
+same_leaves out net report line told old mid new heard before now (Refused refusal) same h = h
+
+left_by : (m : Mask) (told : Bool) (old new : Contents) (heard : Bool) (before now : List ℕ) (ended : Ended) → LeavesMasked m told old new heard before now ended
+    → ((w0 w1 p0 p1 : ℕ) → IsDelivery m.out w0 w1 p0 p1 ended → HasLeft m told old new heard before now ended)
+left_by m told old new heard before now Done h w0 w1 p0 p1 d = h
+left_by m told old new heard before now PrintFault h w0 w1 p0 p1 d = h
+left_by m told old new heard before now (WriteFault file) h w0 w1 p0 p1 d = h
+left_by m told old new heard before now Memory h w0 w1 p0 p1 d = inr h
+left_by m told old new heard before now Usage h w0 w1 p0 p1 d = absurd d
+left_by m told old new heard before now (ReadFault file) h w0 w1 p0 p1 d = absurd d
+left_by m told old new heard before now (Refused refusal) h w0 w1 p0 p1 d = absurd d
+
+-- what a delivery leaves of the texts that mask what was read
+pub delivered : (m : Mask) (net report line text : List ℕ) (told : Bool) (old mid new : Contents) (heard : Bool) (before now : List ℕ) (w0 w1 p0 p1 : ℕ) (ended : Ended)
+    → AllStay old mid → (IsTrue told → text_of (old m.net) ≡ text) → Masks text m.order net report line → IsDelivery m.out w0 w1 p0 p1 ended
+    → Leaves m.out net report line told mid new heard before now ended → HasLeft m told old new heard before now ended
+delivered m net report line text told old mid new heard before now w0 w1 p0 p1 ended same read masks end leaves =
+    let P : List ℕ → Type 0 = λ t. Masks t m.order net report line in
+    let all : LeavesMasked m told old new heard before now ended = record {
+      net = net;
+      report = report;
+      line = line;
+      masks = λ t. subst P (sym (read t)) masks;
+      leaves = same_leaves m.out net report line told old mid new heard before now ended same leaves;
+    } in
+    left_by m told old new heard before now ended all w0 w1 p0 p1 end
+
+-- what follows where a result is an error
+pub on_err_map : {T E P Q : Type 0} (r : Result T E) → OnErr r P → (P → Q) → OnErr r Q
+on_err_map (Ok x) h f = tt
+on_err_map (Err e) h f = f h
