@@ -33,5 +33,9 @@ exit status
    5  there is not enough memory
    6  standard output could not be written
    7  a word of the command line is not text
+  10  a file is longer than 268,435,456 bytes
+  23  the design is too large: its operators times shares squared exceed 65,536
   31  what is asked for is not built yet
+
+A status other than 0 comes with a line on standard error that says why.
 ";

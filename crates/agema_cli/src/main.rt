@@ -36,12 +36,23 @@ fn own_text(words: &[String]) -> Option<&'static str> {
     }
 }
 
+// Tells on standard error how a run ended, where it did not do all. Nothing is told where memory is wanted for the line.
+fn tell(rt: HostRuntime, ended: &Ended) {
+    if matches!(ended, Ended::Done) {
+        return;
+    }
+    if let Ok(line) = ended.explain(rt.alloc()) {
+        let _ = rt.stderr().write_all(line.as_slice());
+    }
+}
+
 // The status of a run of the command that the words are.
 fn status_of(rt: HostRuntime, words: &[String]) -> u8 {
     let alloc = rt.alloc();
     let mut shelf = FilesShelf::new(rt);
     let mut sink = StdSink::new(rt);
     let ended: Ended = run(alloc, words, &mut shelf, &mut sink);
+    tell(rt, &ended);
     ended.status()
 }
 
