@@ -14,7 +14,7 @@ count w ws = count_by (λ b. b == w) ws
 pub count-append : (w : ℕ) (xs ys : List ℕ) → count w (xs ++ ys) ≡ count w xs + count w ys
 count-append w xs ys = sum_by-append _ xs ys
 
-count-head : (w b : ℕ) (bs : List ℕ) → b ≡ w → count w (b ∷ bs) ≡ 1 + count w bs
+pub count-head : (w b : ℕ) (bs : List ℕ) → b ≡ w → count w (b ∷ bs) ≡ 1 + count w bs
 count-head w b bs same = sum_by-cons _ b bs ∙ ap (λ (t : Bool). cond t 1 0 + count w bs) (eq-eqb b w same)
 
 pub count-tail : (w b : ℕ) (bs : List ℕ) → b ≢ w → count w (b ∷ bs) ≡ count w bs

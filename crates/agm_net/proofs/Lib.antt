@@ -1,7 +1,11 @@
 pub mod Counts
+pub mod Finds
 pub mod FirstBad
+pub mod Made
 pub mod Named
 pub mod Nets
 pub mod Parts
+pub mod PlainForm
 pub mod Ports
 pub mod Repeats
+pub mod ShareIndex

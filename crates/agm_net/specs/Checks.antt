@@ -1,11 +1,14 @@
 -- What the checks of a net's parts compute, as functions of lists.
-use Rattle.std.specs.Prelude.{◌≡◌, ◌≤◌, ◌<◌, ◌+◌, ◌-◌, ◌==◌, ◌&&◌, ◌++◌, ℕ, Bool, true, false, not, if◌then◌else◌, List, [], ◌∷◌, Option, IsTrue, length, map, filter, take, fold, min, nat_le, slice_get, slice_set, slice_index, slice_index_or, replicate}
+use Rattle.std.specs.Prelude.{◌≡◌, ◌≤◌, ◌<◌, ◌+◌, ◌-◌, ◌==◌, ◌&&◌, ◌||◌, ◌++◌, ℕ, Bool, true, false, not, if◌then◌else◌, List, [], ◌∷◌, Option, Some, None, IsTrue, length, map, filter, take, fold, min, nat_le, nat_lt, slice_get, slice_set, slice_index, slice_index_or, replicate}
 use Rattle.std.specs.List.{list_all, list_any, flat_map, range_with_len}
 use Rattle.std.specs.Option.{option_map_or}
 use Rattle.std.specs.Str.{bytes_eq}
+use Rattle.agm_net.specs.Formula.{Formula, formula_of, f_zero, f_one, f_wire, f_not, f_and, f_or, f_xor, f_mux}
 use Rattle.agm_net.specs.Plain.{PlainNet, bit_names, is_input}
 use Rattle.agm_net.specs.WellFormed.{IsRight, is_clock_port}
+use Rattle.agm_net.specs.Writable.{is_graphic}
 use Rattle.agm_net.specs.declared.port.Port.{Port}
+use Rattle.agm_net.specs.declared.port.Range.{Range}
 use Rattle.agm_net.specs.declared.expr.Equation.{Equation}
 use Rattle.agm_net.specs.declared.expr.Register.{Register}
 
@@ -96,3 +99,53 @@ pub record IsFirstWrong (net : PlainNet) (w : ℕ) : Type 0 where
 -- every wire is right
 abbrev pub AllRight : PlainNet → Type 0
 AllRight net = (v : ℕ) → v < length net.wires → IsRight net v
+
+-- whether a formula is a wire
+abbrev pub is_wire : Formula → Bool
+is_wire (f_wire w) = true
+is_wire _ = false
+
+-- whether a formula is this wire
+abbrev pub is_this_wire : ℕ → Formula → Bool
+is_this_wire q (f_wire w) = w == q
+is_this_wire q _ = false
+
+-- whether a formula is a constant, a wire, or one operator over wires
+abbrev pub is_one_operator : Formula → Bool
+is_one_operator f_zero = true
+is_one_operator f_one = true
+is_one_operator (f_wire w) = true
+is_one_operator (f_not x) = is_wire x
+is_one_operator (f_and x y) = is_wire x && is_wire y
+is_one_operator (f_or x y) = is_wire x && is_wire y
+is_one_operator (f_xor x y) = is_wire x && is_wire y
+is_one_operator (f_mux s x y) = is_wire s && (is_wire x && is_wire y)
+
+-- whether a formula is a wire, or a choice between wires that keeps q
+abbrev pub is_next_of : ℕ → Formula → Bool
+is_next_of q (f_wire w) = true
+is_next_of q (f_mux s x y) = is_wire s && (is_this_wire q x && is_wire y)
+is_next_of q _ = false
+
+-- whether a name has a byte, and each byte is seen
+abbrev pub is_writable : List ℕ → Bool
+is_writable name = not (length name == 0) && list_all is_graphic name
+
+-- whether the numbers of a range are at most 65,535
+abbrev pub range_fits : Option Range → Bool
+range_fits None = true
+range_fits (Some r) = nat_le r.msb 65535 && nat_le r.lsb 65535
+
+-- whether a port's name can be written and its range fits
+abbrev pub is_plain_port : Port → Bool
+is_plain_port p = is_writable p.name && range_fits p.range
+
+-- whether a wire has another name than these, or is counted
+abbrev pub is_other_or_counted : Texts → List ℕ → ℕ → Bool
+is_other_or_counted names name count = not (list_any (λ n. bytes_eq n name) names) || nat_lt 0 count
+
+-- whether a net's parts are plain, apart from wires that have the names of ports
+abbrev pub parts_plain : List Port → Texts → List Equation → List Register → Bool
+parts_plain ports wires equations registers =
+    list_all (λ e. is_one_operator (formula_of e.expr)) equations
+    && (list_all (λ r. is_next_of r.q (formula_of r.next)) registers && (list_all is_plain_port ports && list_all is_writable wires))

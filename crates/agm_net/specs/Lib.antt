@@ -9,4 +9,7 @@ pub mod Secret
 pub mod Role
 pub mod View
 pub mod Writable
+pub mod PlainForm
 pub mod Simple
+pub mod Label
+pub mod Renumbered

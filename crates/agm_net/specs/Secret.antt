@@ -1,7 +1,7 @@
 -- Secret wires.
 use Rattle.std.specs.Prelude.{◌==◌, ℕ, Bool, true, false, ◌&&◌, ◌||◌, List, IsTrue}
 use Rattle.std.specs.List.{list_any, zip}
-use Rattle.agm_net.specs.Formula.{stands}
+use Rattle.agm_net.specs.Formula.{Formula, stands}
 use Rattle.agm_net.specs.Plain.{PlainNet, is_input}
 use Rattle.agm_net.specs.Loop.{reads, IsChain, last_of}
 use Rattle.agm_net.specs.declared.mark.Mark.{Mark}
@@ -23,3 +23,7 @@ depends net w v = reads net w v || list_any (λ r. (r.q == w) && stands v r.next
 -- by a register. The list stands here from the wire back to that bit.
 abbrev pub IsSecret : PlainNet → List Mark → ℕ → Type 0
 IsSecret net marks w = (ws : List ℕ) × IsChain (depends net) w ws × IsTrue (is_secure_bit net marks (last_of w ws))
+
+-- A formula is secret when a secret wire stands in it.
+abbrev pub IsSecretFormula : PlainNet → List Mark → Formula → Type 0
+IsSecretFormula net marks f = (w : ℕ) × IsTrue (stands w f) × IsSecret net marks w

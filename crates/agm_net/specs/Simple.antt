@@ -1,8 +1,9 @@
 -- Simple nets: those that are masked without a gadget.
-use Rattle.std.specs.Prelude.{◌≡◌, ◌≢◌, ◌<◌, ◌==◌, ℕ, Bool, true, false, ◌||◌, List, [], ◌∷◌, length, filter, None, IsTrue, codes, nat_eq}
+use Rattle.std.specs.Prelude.{◌≡◌, ◌≢◌, ◌<◌, ◌==◌, ℕ, Bool, true, false, not, ◌&&◌, ◌||◌, List, [], ◌∷◌, length, filter, None, IsTrue, codes, nat_eq}
 use Rattle.std.specs.List.{flat_map, list_any, AllByRecursion, range_with_len, zip, starts_with}
-use Rattle.agm_net.specs.Formula.{Formula, f_wire, f_not, f_xor, stands}
+use Rattle.agm_net.specs.Formula.{Formula, f_zero, f_one, f_wire, f_not, f_and, f_xor, stands}
 use Rattle.agm_net.specs.Plain.{Line, PlainNet, is_input}
+use Rattle.agm_net.specs.PlainForm.{IsWire, IsPlain}
 use Rattle.agm_net.specs.Writable.{IsWritable}
 use Rattle.agm_net.specs.declared.mark.Mark.{Mark}
 use Rattle.agm_net.specs.declared.mark.Mark.TheVariants.{Secure, Public}
@@ -44,6 +45,20 @@ pub record IsSimple (net : PlainNet) (marks : List Mark) : Type 0 where
   pub writable : AllByRecursion IsWritable net.wires
   pub ports_named : AllByRecursion (λ p. starts_with nat_eq p.name (codes "agm_") ≡ false) net.ports
 
+-- the net with other equations
+abbrev pub with_lines : List Line → PlainNet → PlainNet
+with_lines lines net = record { ports = net.ports; wires = net.wires; lines = lines; registers = net.registers; clock = net.clock }
+
+-- One product: the net's only equation is the product of two wires, for a bit of an output port, and with their exclusive or in its
+-- place the net would be simple. So both are input bits, which may be the same.
+pub record IsProduct (net : PlainNet) (marks : List Mark) : Type 0 where
+  pub target : ℕ
+  pub left : ℕ
+  pub right : ℕ
+  pub product : net.lines ≡ (target, f_and (f_wire left) (f_wire right)) ∷ []
+  pub is_output : IsTrue (list_any (λ p. not (is_input p) && list_any (λ b. b == target) p.bits) net.ports)
+  pub else_simple : IsSimple (with_lines ((target, f_xor (f_wire left) (f_wire right)) ∷ []) net) marks
+
 -- A net that a small text of inverters and exclusive ors can state: no register and no range, the ports' wires first in port order,
 -- equations that are a wire, one inversion or one exclusive or of wires, names that can be written, and none that begins with `agm_u`,
 -- which are those of instances.
@@ -55,3 +70,23 @@ pub record IsLinearNet (net : PlainNet) : Type 0 where
   pub linear : AllByRecursion (λ l. IsLinear l.1) net.lines
   pub writable : AllByRecursion IsWritable net.wires
   pub instances_free : AllByRecursion (λ name. starts_with nat_eq name (codes "agm_u") ≡ false) net.wires
+
+-- what an assign or a cell of the small form states: a constant, a wire, or an inversion, product or exclusive or of wires
+abbrev pub IsCell : Formula → Type 0
+IsCell f_zero = Unit {0}
+IsCell f_one = Unit {0}
+IsCell (f_wire a) = Unit {0}
+IsCell (f_not (f_wire a)) = Unit {0}
+IsCell (f_and (f_wire a) (f_wire b)) = Unit {0}
+IsCell (f_xor (f_wire a) (f_wire b)) = Unit {0}
+IsCell _ = Prim.⊥
+
+-- A net that a small text can state, up to the order of its wires: it is plain, and has a port; an assign or a cell states each
+-- equation, and each register stores a wire; and no name begins with `agm_u`, as those of instances do.
+pub record IsSmallNet (net : PlainNet) : Type 0 where
+  pub is_plain : IsPlain net
+  pub has_port : 0 < length net.ports
+  pub cells : AllByRecursion (λ l. IsCell l.1) net.lines
+  pub stored : AllByRecursion (λ r. IsWire r.next) net.registers
+  pub wires_named : AllByRecursion (λ name. starts_with nat_eq name (codes "agm_u") ≡ false) net.wires
+  pub ports_named : AllByRecursion (λ p. starts_with nat_eq p.name (codes "agm_u") ≡ false) net.ports

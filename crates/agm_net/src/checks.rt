@@ -256,12 +256,20 @@ fn do_ports_differ(alloc: Global, ports: &[Port]) -> Result<bool, Memory>
     Ok(first_repeated_port(alloc, ports)? == ports.len())
 }
 
+// How often each of n wires is a bit of a port: 255 stands for as many or more.
+pub(crate) fn count_bits(alloc: Global, n: usize, ports: &[Port]) -> Result<Vec<u8>, Memory>
+    ensures { IfOk result (λ v. v.items ≡ spec.uses n (spec.port_bits ports.now)) }
+{
+    let mut counts = vec![in alloc; 0u8; n]?;
+    count_ports(counts.as_mut_slice(), ports);
+    Ok(counts)
+}
+
 // Whether no wire is a bit of two ports.
 fn are_bits_apart(alloc: Global, n: usize, ports: &[Port]) -> Result<bool, Memory>
     ensures { IfOk result (λ b. b ≡ spec.at_most_once (spec.uses n (spec.port_bits ports.now))) }
 {
-    let mut counts = vec![in alloc; 0u8; n]?;
-    count_ports(counts.as_mut_slice(), ports);
+    let counts = count_bits(alloc, n, ports)?;
     Ok(are_at_most_once(counts.as_slice()))
 }
 

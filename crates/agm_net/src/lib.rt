@@ -5,11 +5,16 @@ mod checks;
 mod expr;
 mod mark;
 mod net;
+mod plain;
 mod port;
 mod refusals;
+mod roles;
+#[cfg(test)]
+mod tests;
 
 pub use expr::{Equation, Expr, Register, is_within, not_of, xor_of};
 pub use mark::{Mark, Marks, Role};
 pub use net::{Net, NewNet};
 pub use port::{Port, Range, Way};
 pub use refusals::{nets_are_not_refused, one_number_tells};
+pub use roles::one_role;
