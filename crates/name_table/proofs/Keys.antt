@@ -1,10 +1,10 @@
 -- Look-ups among keys that are `Vec`s of bytes, as look-ups among the names that they hold.
-use Rattle.std.proofs.Common.{◌≡◌, ℕ, Bool, List, [], ◌∷◌, Vec, Global, map, cond, true, Some, None, length, refl, ◌<◌, arith}
-use Rattle.std.specs.Prelude.{position, nat_lt}
-use Rattle.std.specs.List.{list_any, position_or_len}
+use Rattle.std.proofs.Common.{◌≡◌, ◌≢◌, ℕ, zero, suc, Bool, List, [], ◌∷◌, Vec, Global, map, cond, true, false, Some, None, length, refl, sym, ◌<◌, arith}
+use Rattle.std.specs.Prelude.{position, nat_lt, slice_get}
+use Rattle.std.specs.List.{list_any, position_or_len, AllByRecursion, IsDistinct}
 use Rattle.std.specs.Str.{bytes_eq}
-use Rattle.std.specs.Cmp.Lexicographic.{nat_list_eq_equiv}
-use Rattle.std.proofs.lemmas.Bool.{cases_Bool, ltb-true}
+use Rattle.std.specs.Cmp.Lexicographic.{nat_list_eq_equiv, bytes_decides}
+use Rattle.std.proofs.lemmas.Bool.{cases_Bool, both_ways, ltb-true}
 use mathlib.Core.Logic.{⊎_elim}
 
 module _ {X Y : Type 0} (f : X → Y) (p : X → Bool) (q : Y → Bool) (same : (x : X) → p x ≡ q (f x)) where
@@ -57,3 +57,23 @@ module _ {X : Type 0} (p : X → Bool) where
   -- an item passes where one has a place
   pub any_of_Some : (xs : List X) (i : ℕ) → position p xs ≡ Some i → list_any p xs ≡ true
   any_of_Some xs i found = there_within xs (within_of_Some _ _ i found)
+
+abbrev pub same_key : Vec ℕ Global → Vec ℕ Global → Bool
+same_key k l = bytes_eq k.items l.items
+
+-- no name behind a key is the key's, where none of those keys is equal to it
+other_behind : (k : Vec ℕ Global) (keys : List (Vec ℕ Global)) → AllByRecursion (λ l. same_key k l ≡ false) keys → (w : ℕ) → slice_get (names_of keys) w ≢ Some k.items
+other_behind k [] other w found = absurd (cc)
+other_behind k (l ∷ ls) other zero found =
+    let e : k.items ≡ l.items = cc in
+    absurd (both_ways (same_key k l) other.0 ((bytes_decides k.items l.items).1 e))
+other_behind k (l ∷ ls) other (suc w) found = other_behind k ls other.1 w found
+
+-- the names of different keys differ
+pub names_differ : (keys : List (Vec ℕ Global)) → IsDistinct same_key keys → (v w : ℕ) → v < w → w < length (names_of keys) → slice_get (names_of keys) v ≢ slice_get (names_of keys) w
+unfolding IsDistinct
+names_differ [] distinct v w before within same = absurd (omega arith)
+names_differ (k ∷ ks) distinct zero zero before within same = absurd (omega arith)
+names_differ (k ∷ ks) distinct zero (suc w) before within same = other_behind k ks distinct.0 w (sym same)
+names_differ (k ∷ ks) distinct (suc v) zero before within same = absurd (omega arith)
+names_differ (k ∷ ks) distinct (suc v) (suc w) before within same = names_differ ks distinct.1 v w (omega arith) (omega arith) same

@@ -1,4 +1,4 @@
-ghost use Rattle.std.specs.Prelude.{◌≡◌, ◌∷◌, [], ◌++◌, length, position, if◌then◌else◌, IfOk, OnErr, not};
+ghost use Rattle.std.specs.Prelude.{◌≡◌, ◌≢◌, ◌<◌, ◌∷◌, [], ◌++◌, ℕ, length, position, slice_get, if◌then◌else◌, IfOk, OnErr, not};
 ghost use Rattle.std.specs.List.{list_any, position_or_len};
 ghost use Rattle.std.specs.Str.{bytes_eq};
 
@@ -47,6 +47,13 @@ impl Names {
         ensures { result ≡ length self.now }
     {
         self.table.len()
+    }
+
+    /// No two names of a table are the same. This is a law, which takes no time.
+    pub fn differ(&self)
+        ensures { (v w : ℕ) → v < w → w < length self.now → slice_get self.now v ≢ slice_get self.now w }
+    {
+        let _ = self.table.len();
     }
 
     /// The place of a name, counted from 0.
