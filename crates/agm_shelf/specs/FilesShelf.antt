@@ -1,6 +1,6 @@
 -- What a shelf of files shows.
 use Rattle.std.specs.Prelude.{ℕ, List, Option}
-use Rattle.std.specs.Option.{option_map}
+use Rattle.std.specs.Option.{option_map, option_and_then}
 use Rattle.agm_shelf.specs.declared.files.FilesShelf.{FilesShelf}
 
 -- the name of the pending output
@@ -14,3 +14,7 @@ read_failures s = s.read_faults
 -- how often a write failed
 abbrev pub write_failures : {R F D : Type 0} → FilesShelf R F D → ℕ
 write_failures s = s.write_faults
+
+-- what the file of the pending output holds, where files of this kind tell it
+abbrev pub open_contents : {R F D : Type 0} → (F → Option (List ℕ)) → FilesShelf R F D → Option (List ℕ)
+open_contents contents s = option_and_then (λ o. contents o.file) s.output

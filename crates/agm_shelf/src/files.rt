@@ -1,8 +1,9 @@
-ghost use Rattle.std.specs.Prelude.{◌≡◌, ◌≤◌, ◌<◌, ◌+◌, ◌^◌, IsTrue, false, Some, None, Ok, IsSome, OnOk, OnErr, IfOk, IfErr, length};
+ghost use Rattle.std.specs.Prelude.{◌≡◌, ◌≤◌, ◌<◌, ◌+◌, ◌^◌, IsTrue, false, Some, None, Ok, IsSome, OnOk, OnErr, IfOk, IfErr, IfSome, length};
 ghost use Rattle.agm_shelf.specs.Shelf.{IsTooLong, Continues};
 ghost use Rattle.agm_shelf.specs.Turn.{count_after};
 ghost use Rattle.agm_shelf.specs.Ends.{read_failed, put_failed};
-ghost use Rattle.agm_shelf.specs.FilesShelf.{open_name, read_failures, write_failures};
+ghost use Rattle.std.specs.Io.KnownBytes.{Appends};
+ghost use Rattle.agm_shelf.specs.FilesShelf.{open_name, open_contents, read_failures, write_failures};
 
 use crate::{PutEnd, ReadEnd, Shelf};
 use agm_bits::Name;
@@ -44,6 +45,7 @@ fn read_within<F: Read + OpenFile + Drop>(
     limit: usize,
 ) -> Result<Vec<u8>, ReadEnd>
     ensures within { IfOk result (λ v. length v.items ≤ limit) }
+    ensures whole { IfOk result (λ v. IfSome (F.remaining file) (λ bytes. v.items ≡ bytes)) }
     ensures too_long { IfErr result (IsTooLong limit false None) }
 {
     if is_longer(&file, limit) {
@@ -138,6 +140,9 @@ impl<R: Files + Drop> Shelf for FilesShelf<R> {
         requires { IsSome (open_name self.old) }
         ensures ok { OnOk result (open_name self.new ≡ open_name self.old) }
         ensures err { OnErr result (open_name self.new ≡ None) }
+
+        // A file that tells what it holds has grown by all the bytes.
+        ensures grown { OnOk result (Appends (open_contents R.File.contents self.old) (open_contents R.File.contents self.new) bytes.now) }
 
         // Each failure is counted, and nothing else.
         ensures count { write_failures self.new ≡ count_after (put_failed result) (write_failures self.old) }

@@ -1,6 +1,7 @@
 use crate::{
     FilesShelf, MemoryShelf, MemorySink, PutEnd, ReadEnd, Shelf, Sink, StdSink, write_whole,
 };
+use std::cell::Cell;
 use std::fmt::Display;
 use std::fs;
 use std::io::{self, ErrorKind};
@@ -121,8 +122,35 @@ impl Print for Closed {
     }
 }
 
+// An output that counts the bytes that it takes.
+#[derive(Drop)]
+struct Counted {
+    bytes: Cell<usize>,
+}
+
+impl Print for Counted {
+    fn print<D: Display + Drop>(&self, _: D) -> io::Result<()> {
+        Err(io::Error::from(ErrorKind::Unsupported))
+    }
+
+    fn println<D: Display + Drop>(&self, _: D) -> io::Result<()> {
+        Err(io::Error::from(ErrorKind::Unsupported))
+    }
+
+    fn write_all(&self, bytes: &[u8]) -> io::Result<()> {
+        self.bytes.set(self.bytes.get().saturating_add(bytes.len()));
+        Ok(())
+    }
+}
+
 #[test]
 fn the_standard_output_is_printed_to(rt: HostRuntime) -> Result<(), Fail> {
+    let counted = Counted {
+        bytes: Cell::new(0),
+    };
+    let taken = StdSink::new(&counted).put(b"counted\n");
+    assert_eq!(rt; taken, Ok(()));
+    assert_eq!(rt; counted.bytes.get(), 8);
     let printed = StdSink::new(rt.clone()?).put(b"printed\n");
     assert_eq!(rt; printed, Ok(()));
     let refused = StdSink::new(Closed).put(b"refused\n");
