@@ -1,0 +1,15 @@
+pub mod AgainDesign
+pub mod AgainForms
+pub mod AgainItems
+pub mod AgainLists
+pub mod AgainParts
+pub mod Ahead
+pub mod FoundDesign
+pub mod FoundForms
+pub mod FoundItems
+pub mod FoundLists
+pub mod FoundParts
+pub mod Many
+pub mod OneDesign
+pub mod OneToken
+pub mod Steps
