@@ -1,0 +1,5 @@
+pub mod Bytes
+pub mod Cuts
+pub mod First
+pub mod Row
+pub mod Tokens
