@@ -1,0 +1,5 @@
+mod Again
+mod Found
+mod Left
+mod Row
+pub mod Whole
