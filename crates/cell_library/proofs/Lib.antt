@@ -1,0 +1,12 @@
+mod Answered
+mod Causes
+mod CellSteps
+mod Folds
+mod Groups
+mod LibrarySteps
+mod Lists
+mod Names
+mod Opens
+mod Says
+mod WholeText
+mod Wholes

@@ -1,0 +1,9 @@
+pub mod Texts
+pub mod Read
+pub mod Judged
+pub mod Spelled
+pub mod Steps
+pub mod View
+pub mod Known
+pub mod Found
+pub mod Answers
