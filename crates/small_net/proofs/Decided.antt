@@ -1,4 +1,4 @@
--- The tests of the first form decide it.
+-- The tests of a text of gates decide that it is one.
 use Rattle.std.proofs.Common.{◌≡◌, ℕ, Bool, true, false, not, ◌&&◌, List, [], ◌∷◌, ◌++◌, length, count_by, Option, Some, None, IsTrue, is_none, nat_lt, nat_eq, codes, refl, sym, ap, subst, ◌∙◌, inl, inr, append_assoc, append-nil}
 use Rattle.std.specs.List.{flat_map, list_all, AllByRecursion, starts_with}
 use Rattle.std.specs.Str.{bytes_eq}
@@ -12,20 +12,20 @@ use Rattle.small_text.specs.declared.small.Item.{Item}
 use Rattle.small_text.specs.declared.small.Item.TheVariants.{Assign, Not, Xor, And, Register}
 use Rattle.small_text.specs.declared.small.Small.{Small}
 use Rattle.small_net.specs.States.{is_among, facts_of, wire_names, instance_names}
-use Rattle.small_net.specs.FirstForm.{IsFirstForm, IsPlainDeclaration, IsPlainCell, port_names, input_names, output_names, read_names, set_names, ReadsEarlier, inputs_of, to_set}
-use Rattle.small_net.specs.First.{all_names, declared_ports, is_secure_input, is_plain_declaration, is_plain_cell, is_plain, all_new, all_run, has_names, has_instances, is_listed, has_ports, has_order, is_first}
+use Rattle.small_net.specs.FirstForm.{IsGateForm, IsPlainDeclaration, IsPlainCell, port_names, input_names, output_names, read_names, set_names, ReadsEarlier, inputs_of, to_set}
+use Rattle.small_net.specs.First.{all_names, declared_ports, is_secure_input, is_plain_declaration, is_plain_cell, is_plain, all_new, all_run, has_names, has_instances, is_listed, has_ports, has_order, is_gate_form}
 use Rattle.small_net.proofs.Among.{Apart, same_names, name_itself, all_at, all_from, among_front, among_back, among_append, counted_some, apart_count, apart_from_counts, apart_front, apart_back, apart_sides, apart_joined, differ_from_apart}
 use Rattle.small_net.proofs.Facts.{no_ways, ways_kept}
 use Rattle.small_net.proofs.FirstNet.{names_apart, all_apart, is_declared}
 use Rattle.small_net.proofs.Driven.{declared_apart, sets_among}
 
 -- a test of each element, and a fact of each
-passed : {X : Type 0} (test : X → Bool) (P : X → Type 0) (xs : List X) → ((x : X) → test x ≡ true → P x) → list_all test xs ≡ true → AllByRecursion P xs
+pub passed : {X : Type 0} (test : X → Bool) (P : X → Type 0) (xs : List X) → ((x : X) → test x ≡ true → P x) → list_all test xs ≡ true → AllByRecursion P xs
 passed test P [] f h = tt
 passed test P (x ∷ xs) f h = let p = and_parts (test x) (list_all test xs) h in (f x p.0, passed test P xs f p.1)
 
 -- a fact of each element, and the test of each
-passes : {X : Type 0} (test : X → Bool) (P : X → Type 0) (xs : List X) → ((x : X) → P x → test x ≡ true) → AllByRecursion P xs → list_all test xs ≡ true
+pub passes : {X : Type 0} (test : X → Bool) (P : X → Type 0) (xs : List X) → ((x : X) → P x → test x ≡ true) → AllByRecursion P xs → list_all test xs ≡ true
 passes test P [] f all = refl
 passes test P (x ∷ xs) f all = and_from (test x) (list_all test xs) (f x all.0) (passes test P xs f all.1)
 
@@ -59,7 +59,9 @@ plain_cell (Xor name a b y) h =
     let p = and_parts (is_none a.index) (is_none b.index && is_none y.index) h in
     let q = and_parts (is_none b.index) (is_none y.index) p.1 in (none_from_test a.index p.0, none_from_test b.index q.0, none_from_test y.index q.1)
 plain_cell (Assign target from) h = absurd (both_ways false refl h)
-plain_cell (And name a b y) h = absurd (both_ways false refl h)
+plain_cell (And name a b y) h =
+    let p = and_parts (is_none a.index) (is_none b.index && is_none y.index) h in
+    let q = and_parts (is_none b.index) (is_none y.index) p.1 in (none_from_test a.index p.0, none_from_test b.index q.0, none_from_test y.index q.1)
 plain_cell (Register name c d q) h = absurd (both_ways false refl h)
 
 -- a plain cell passes the test
@@ -67,7 +69,7 @@ plain_cell_passes : (c : Item) → IsPlainCell c → is_plain_cell c ≡ true
 plain_cell_passes (Not name a y) h = and_from _ _ (ap is_none h.0) (ap is_none h.1)
 plain_cell_passes (Xor name a b y) h = and_from _ _ (ap is_none h.0) (and_from _ _ (ap is_none h.1) (ap is_none h.2))
 plain_cell_passes (Assign target from) h = absurd h
-plain_cell_passes (And name a b y) h = absurd h
+plain_cell_passes (And name a b y) h = and_from _ _ (ap is_none h.0) (and_from _ _ (ap is_none h.1) (ap is_none h.2))
 plain_cell_passes (Register name c d q) h = absurd h
 
 -- names that are all new differ, and are none of those seen before
@@ -170,7 +172,13 @@ runs_told names known (Xor name a b y ∷ cs) h =
     let s = run_step names known y.name cs r.0 r.1 (runs_told names (known ++ y.name ∷ []) cs p.1) in
     record { reads = ((q.0, (o.0, tt)), s.0); apart = s.1; among = s.2; unknown = s.3 }
 runs_told names known (Assign target from ∷ cs) h = let r = runs_told names known cs (told_rest names known cs h) in record { reads = (tt, r.reads); apart = r.apart; among = r.among; unknown = r.unknown }
-runs_told names known (And name a b y ∷ cs) h = let r = runs_told names known cs (told_rest names known cs h) in record { reads = (tt, r.reads); apart = r.apart; among = r.among; unknown = r.unknown }
+runs_told names known (And name a b y ∷ cs) h =
+    let p = and_parts _ (all_run names (known ++ y.name ∷ []) cs) h in
+    let q = and_parts (is_among known a.name) _ p.0 in
+    let o = and_parts (is_among known b.name) _ q.1 in
+    let r = and_parts (is_among names y.name) (not (is_among known y.name)) o.1 in
+    let s = run_step names known y.name cs r.0 r.1 (runs_told names (known ++ y.name ∷ []) cs p.1) in
+    record { reads = ((q.0, (o.0, tt)), s.0); apart = s.1; among = s.2; unknown = s.3 }
 runs_told names known (Register name c d q ∷ cs) h = let r = runs_told names known cs (told_rest names known cs h) in record { reads = (tt, r.reads); apart = r.apart; among = r.among; unknown = r.unknown }
 
 -- the converse
@@ -192,7 +200,8 @@ all_run_from names known (Not name a y ∷ cs) r =
 all_run_from names known (Xor name a b y ∷ cs) r =
     and_from _ _ (and_from _ _ r.reads.0.0 (and_from _ _ r.reads.0.1.0 (and_from _ _ r.among.0 (not_from_false (is_among known y.name) r.unknown.0)))) (all_run_from names (known ++ y.name ∷ []) cs (run_rest names known y.name cs r.reads.1 r.apart r.among.1 r.unknown.1))
 all_run_from names known (Assign target from ∷ cs) r = rest_run names known cs (all_run_from names known cs (record { reads = r.reads.1; apart = r.apart; among = r.among; unknown = r.unknown }))
-all_run_from names known (And name a b y ∷ cs) r = rest_run names known cs (all_run_from names known cs (record { reads = r.reads.1; apart = r.apart; among = r.among; unknown = r.unknown }))
+all_run_from names known (And name a b y ∷ cs) r =
+    and_from _ _ (and_from _ _ r.reads.0.0 (and_from _ _ r.reads.0.1.0 (and_from _ _ r.among.0 (not_from_false (is_among known y.name) r.unknown.0)))) (all_run_from names (known ++ y.name ∷ []) cs (run_rest names known y.name cs r.reads.1 r.apart r.among.1 r.unknown.1))
 all_run_from names known (Register name c d q ∷ cs) r = rest_run names known cs (all_run_from names known cs (record { reads = r.reads.1; apart = r.apart; among = r.among; unknown = r.unknown }))
 
 -- what ports and names tell of inputs and of what is set
@@ -272,7 +281,7 @@ set_found s n o known h =
     ]
 
 -- a name is an input, or is set
-known_name : (s : Small) (n : List ℕ) → IsFirstForm s → Sorted s → is_among (all_names s) n ≡ true → is_among (inputs_of s ++ flat_map set_names s.items) n ≡ true
+known_name : (s : Small) (n : List ℕ) → IsGateForm s → Sorted s → is_among (all_names s) n ≡ true → is_among (inputs_of s ++ flat_map set_names s.items) n ≡ true
 known_name s n f o h =
     elim (cases_Bool (is_among (inputs_of s) n)) [
       | inl e ↦ among_front (inputs_of s) (flat_map set_names s.items) n e
@@ -280,8 +289,8 @@ known_name s n f o h =
           (counted_some (λ m. bytes_eq m n) (flat_map set_names s.items) (all_at (λ p. count_by (λ m. bytes_eq m p) (flat_map set_names s.items) ≡ 1) (to_set s) n f.set_once (set_from s n o h e)))
     ]
 
--- a module that passes all tests is of the first form
-pub is_decided : (s : Small) → is_first s ≡ true → IsFirstForm s
+-- a module that passes all tests is one of gates
+pub is_decided : (s : Small) → is_gate_form s ≡ true → IsGateForm s
 is_decided s h =
     let sets = flat_map set_names s.items in
     let instances = flat_map instance_names s.items in
@@ -326,8 +335,8 @@ is_decided s h =
       in_order = run.reads;
     }
 
--- a module of the first form passes all tests
-pub is_complete : (s : Small) → IsFirstForm s → is_first s ≡ true
+-- a module of gates passes all tests
+pub is_complete : (s : Small) → IsGateForm s → is_gate_form s ≡ true
 is_complete s f =
     let sets = flat_map set_names s.items in
     let instances = flat_map instance_names s.items in

@@ -1,5 +1,5 @@
 -- What the declarations of a written module say of its ports and wires.
-use Rattle.std.proofs.Common.{◌≡◌, ◌≢◌, ℕ, zero, suc, ◌+◌, ◌<◌, List, [], ◌∷◌, ◌++◌, Bool, true, false, ◌&&◌, cond, length, map, count_by, position, Option, Some, None, IsTrue, is_none, slice_get, refl, ap, ◌∙◌, sym, arith, zero-add}
+use Rattle.std.proofs.Common.{◌≡◌, ◌≢◌, ℕ, zero, suc, ◌+◌, ◌<◌, List, [], ◌∷◌, ◌++◌, Bool, true, false, ◌&&◌, cond, length, map, count_by, position, Option, Some, None, IsTrue, is_none, slice_get, refl, ap, ap₂, ◌∙◌, sym, arith, zero-add}
 use Rattle.std.specs.List.{AllByRecursion, flat_map, enumerate_from, position_or_len}
 use Rattle.std.specs.Option.{option_map_or}
 use Rattle.std.specs.Str.{bytes_eq}
@@ -12,12 +12,13 @@ use Rattle.agm_net.specs.Plain.{is_in}
 use Rattle.agm_net.specs.WellFormed.{is_clock_port}
 use Rattle.agm_net.specs.declared.mark.Mark.{Mark}
 use Rattle.agm_net.specs.declared.port.Way.{Way}
-use Rattle.agm_net.specs.declared.port.Way.TheVariants.{Input, Output}
+use Rattle.agm_net.specs.declared.port.Range.{Range}
 use Rattle.agm_net.specs.declared.port.Port as net_port
 use Rattle.small_text.specs.declared.small.Declaration.{Declaration}
 use Rattle.small_text.specs.declared.small.Declaration.TheVariants.{Port}
 use Rattle.small_net.specs.States.{Facts, declares, facts_of, is_among, declared_wires, is_clock, IsOfPort}
-use Rattle.small_net.specs.Written.{mark_at, port_declaration, wire_declaration}
+use Rattle.small_net.specs.Texts.{mark_at}
+use Rattle.small_net.specs.Written.{port_declaration, wire_declaration}
 use Rattle.small_net.proofs.Apart.{Apart, all_both, bytes_same, bytes_differ, one_more}
 
 -- the declarations of ports, the first of which is port k
@@ -29,7 +30,7 @@ names_of ps = map (λ p. p.name) ps
 
 -- the facts of port k
 abbrev pub port_facts : Option ℕ → ℕ → net_port.Port → Facts
-port_facts clock k p = record { mark = mark_at clock k; way = p.way; range = None }
+port_facts clock k p = record { mark = mark_at clock k; way = p.way; range = p.range }
 
 -- for each port, the first of which is port k, its facts are what the declarations say
 abbrev pub DeclaredAs : List Declaration → Option ℕ → ℕ → List net_port.Port → Type 0
@@ -37,29 +38,39 @@ DeclaredAs ds clock k [] = Unit {0}
 DeclaredAs ds clock k (p ∷ ps) = (facts_of ds p.name ≡ port_facts clock k p) × DeclaredAs ds clock (k + 1) ps
 
 -- a declaration of another name in front changes nothing
-declared_later : (ds : List Declaration) (mark : Mark) (way : Way) (n : List ℕ) (clock : Option ℕ) (k : ℕ) (ps : List net_port.Port) → DeclaredAs ds clock k ps → AllByRecursion (λ m. n ≢ m) (names_of ps) → DeclaredAs (Port mark way None n ∷ ds) clock k ps
-declared_later ds mark way n clock k [] d a = tt
-declared_later ds mark way n clock k (p ∷ ps) d a = (rw (bytes_differ n p.name a.0) d.0, declared_later ds mark way n clock (k + 1) ps d.1 a.1)
+declared_later : (ds : List Declaration) (mark : Mark) (way : Way) (range : Option Range) (n : List ℕ) (clock : Option ℕ) (k : ℕ) (ps : List net_port.Port) → DeclaredAs ds clock k ps → AllByRecursion (λ m. n ≢ m) (names_of ps) → DeclaredAs (Port mark way range n ∷ ds) clock k ps
+declared_later ds mark way range n clock k [] d a = tt
+declared_later ds mark way range n clock k (p ∷ ps) d a = (rw (bytes_differ n p.name a.0) d.0, declared_later ds mark way range n clock (k + 1) ps d.1 a.1)
 
 -- where the ports' names differ, each has its facts
 pub declared_as : (rest : List Declaration) (clock : Option ℕ) (k : ℕ) (ps : List net_port.Port) → Apart (names_of ps) → DeclaredAs (declared_ports clock k ps ++ rest) clock k ps
 declared_as rest clock k [] a = tt
 declared_as rest clock k (p ∷ ps) a = (
   rw (bytes_same p.name),
-  declared_later (declared_ports clock (k + 1) ps ++ rest) (mark_at clock k) p.way p.name clock (k + 1) ps (declared_as rest clock (k + 1) ps a.1) a.0,
+  declared_later (declared_ports clock (k + 1) ps ++ rest) (mark_at clock k) p.way p.range p.name clock (k + 1) ps (declared_as rest clock (k + 1) ps a.1) a.0,
 )
 
--- no declaration has a range
+-- their marks are those of their numbers
+pub marks_again : (ds : List Declaration) (clock : Option ℕ) (k : ℕ) (ps : List net_port.Port) → DeclaredAs ds clock k ps → map (λ n. (facts_of ds n).mark) (names_of ps) ≡ map (λ p. mark_at clock p.0) (enumerate_from k ps)
+marks_again ds clock k [] d = refl
+marks_again ds clock k (p ∷ ps) d = ap₂ (λ m ms. m ∷ ms) (ap (λ facts. facts.mark) d.0) (marks_again ds clock (k + 1) ps d.1)
+
+-- no declaration has a range where no port has one
 range_of_wires : (own : List (List ℕ)) (n : List ℕ) → (facts_of (map wire_declaration own) n).range ≡ None
 range_of_wires [] n = refl
 range_of_wires (w ∷ ws) n = range_of_wires ws n
 
-pub no_range : (clock : Option ℕ) (own : List (List ℕ)) (k : ℕ) (ps : List net_port.Port) (n : List ℕ) → (facts_of (declared_ports clock k ps ++ map wire_declaration own) n).range ≡ None
-no_range clock own k [] n = range_of_wires own n
-no_range clock own k (p ∷ ps) n =
+pub no_range : (clock : Option ℕ) (own : List (List ℕ)) (k : ℕ) (ps : List net_port.Port) (n : List ℕ) → AllByRecursion (λ p. p.range ≡ None) ps → (facts_of (declared_ports clock k ps ++ map wire_declaration own) n).range ≡ None
+no_range clock own k [] n plain = range_of_wires own n
+no_range clock own k (p ∷ ps) n plain =
     let more = facts_of (declared_ports clock (k + 1) ps ++ map wire_declaration own) n in
     let here = port_facts clock k p in
-    elim (bytes_eq p.name n) as (λ b. (cond b here more).range ≡ None) [ true ↦ refl | false ↦ no_range clock own (k + 1) ps n ]
+    elim (bytes_eq p.name n) as (λ b. (cond b here more).range ≡ None) [ true ↦ plain.0 | false ↦ no_range clock own (k + 1) ps n plain.1 ]
+
+-- a name that is no port's has no declaration with a range
+pub other_range : (clock : Option ℕ) (own : List (List ℕ)) (k : ℕ) (ps : List net_port.Port) (n : List ℕ) → AllByRecursion (λ m. n ≢ m) (names_of ps) → (facts_of (declared_ports clock k ps ++ map wire_declaration own) n).range ≡ None
+other_range clock own k [] n other = range_of_wires own n
+other_range clock own k (p ∷ ps) n other = rw (bytes_differ p.name n (λ e. other.0 (sym e))) (other_range clock own (k + 1) ps n other.1)
 
 -- the wires are declared by themselves, and no port is declared as a wire
 wires_alone : (own : List (List ℕ)) → flat_map declared_wires (map wire_declaration own) ≡ own
@@ -108,14 +119,9 @@ listed ports clock own k (p ∷ ps) a = (a.0, listed ports clock own (k + 1) ps 
 abbrev pub names_clock : List Declaration → List ℕ → Bool
 names_clock ds n = is_clock (facts_of ds n)
 
--- a port that is an input and more is an input
-input_before : (way : Way) (b : Bool) → (is_in way && b) ≡ true → (is_in way && true) ≡ true
-input_before Input b h = refl
-input_before Output b h = h
-
 -- the port of the clock's number is the clock, and no other
 clock_here : (c k : ℕ) (p : net_port.Port) → c ≡ k → is_clock_port p ≡ true → is_clock (port_facts (Some c) k p) ≡ true
-clock_here c k p e h = rw ((Decides-eqb c k).1 e) (input_before p.way (is_none p.range) h)
+clock_here c k p e h = rw ((Decides-eqb c k).1 e) h
 
 clock_elsewhere : (c k : ℕ) (p : net_port.Port) → c ≢ k → is_clock (port_facts (Some c) k p) ≡ false
 clock_elsewhere c k p ne = rw (ne_eqb c k ne)

@@ -1,10 +1,10 @@
--- Each wire of a module of the first form has one driver.
+-- Each wire of a module of gates has one driver.
 use Rattle.std.proofs.Common.{◌≡◌, ◌+◌, ◌<◌, ◌==◌, ℕ, Bool, true, false, not, ◌&&◌, cond, List, [], ◌∷◌, length, map, count_by, filter, IsTrue, slice_index_or, refl, sym, ap, subst, ◌∙◌, inl, inr, arith, nat_lt}
 use Rattle.std.specs.List.{flat_map, list_all, AllByRecursion}
 use Rattle.std.specs.Str.{bytes_eq}
 use Rattle.std.proofs.lemmas.Bool.{both_ways, cases_Bool, or_cases, or_left, or_from, and_from, lt-ltb, false_from_ne_true}
 use Rattle.std.proofs.lemmas.List.Sums.{sum_by-cons}
-use Rattle.agm_net.specs.Formula.{Formula, f_wire, f_not, f_xor, reads_below}
+use Rattle.agm_net.specs.Formula.{Formula, f_wire, f_not, f_xor, f_and, reads_below}
 use Rattle.agm_net.specs.Plain.{Line, is_in, is_input}
 use Rattle.agm_net.specs.WellFormed.{drivers, numbers_fit}
 use Rattle.agm_net.specs.declared.port.Way.TheVariants.{Input}
@@ -12,21 +12,21 @@ use Rattle.small_text.specs.declared.small.Item.{Item}
 use Rattle.small_text.specs.declared.small.Item.TheVariants.{Assign, Not, Xor, And, Register}
 use Rattle.small_text.specs.declared.small.Small.{Small}
 use Rattle.small_net.specs.States.{is_among, facts_of, wire_names}
-use Rattle.small_net.specs.FirstForm.{IsFirstForm, output_names, set_names, ReadsEarlier, inputs_of, to_set}
+use Rattle.small_net.specs.FirstForm.{IsGateForm, output_names, set_names, ReadsEarlier, inputs_of, to_set}
 use Rattle.small_net.specs.First.{all_names, number_in, declared_ports, declared_ways, port_in, lines_in, first_net}
 use Rattle.small_net.proofs.Among.{Apart, same_names, all_at, all_from, among_front, among_back, among_append, count-yes, count-no, count_none, apart_count, apart_from_counts, apart_front, apart_sides, name_at, among_at}
 use Rattle.small_net.proofs.Numbers.{number_at, number_below, count_numbers}
 use Rattle.small_net.proofs.Facts.{no_ways, ways_kept, way_found}
 use Rattle.small_net.proofs.FirstNet.{all_apart, is_declared}
 
--- the declared ports of the first form differ
-pub declared_apart : (s : Small) → IsFirstForm s → Apart (declared_ports s)
+-- the declared ports differ
+pub declared_apart : (s : Small) → IsGateForm s → Apart (declared_ports s)
 declared_apart s f =
     apart_from_counts (declared_ports s) (λ n h. all_at (λ p. count_by (λ m. bytes_eq m p) (declared_ports s) ≡ 1) s.ports n f.ports_declared
     (all_at (λ m. is_among s.ports m ≡ true) (declared_ports s) n f.ports_listed h))
 
 -- inputs and outputs are ports
-pub input_listed : (s : Small) (n : List ℕ) → IsFirstForm s → is_among (inputs_of s) n ≡ true → is_among s.ports n ≡ true
+pub input_listed : (s : Small) (n : List ℕ) → IsGateForm s → is_among (inputs_of s) n ≡ true → is_among s.ports n ≡ true
 input_listed s n f h =
     elim (cases_Bool (is_among (declared_ports s) n)) [
       | inl e ↦ all_at (λ m. is_among s.ports m ≡ true) (declared_ports s) n f.ports_listed e
@@ -34,7 +34,7 @@ input_listed s n f h =
     ]
 
 -- an output is a port
-pub output_listed : (s : Small) (n : List ℕ) → IsFirstForm s → is_among (flat_map output_names s.declarations) n ≡ true → is_among s.ports n ≡ true
+pub output_listed : (s : Small) (n : List ℕ) → IsGateForm s → is_among (flat_map output_names s.declarations) n ≡ true → is_among s.ports n ≡ true
 output_listed s n f h =
     elim (cases_Bool (is_among (declared_ports s) n)) [
       | inl e ↦ all_at (λ m. is_among s.ports m ≡ true) (declared_ports s) n f.ports_listed e
@@ -42,7 +42,7 @@ output_listed s n f h =
     ]
 
 -- what is to be set is a port or a wire
-pub to_set_among : (s : Small) (n : List ℕ) → IsFirstForm s → is_among (to_set s) n ≡ true → is_among (all_names s) n ≡ true
+pub to_set_among : (s : Small) (n : List ℕ) → IsGateForm s → is_among (to_set s) n ≡ true → is_among (all_names s) n ≡ true
 to_set_among s n f h =
     elim (or_cases (is_among (flat_map output_names s.declarations) n) (is_among (wire_names s) n) (sym (among_append (flat_map output_names s.declarations) (wire_names s) n) ∙ h)) [
       | inl out ↦ among_front s.ports (wire_names s) n (output_listed s n f out)
@@ -50,13 +50,13 @@ to_set_among s n f h =
     ]
 
 -- what cells set is a port or a wire
-pub sets_among : (s : Small) → IsFirstForm s → AllByRecursion (λ m. is_among (all_names s) m ≡ true) (flat_map set_names s.items)
+pub sets_among : (s : Small) → IsGateForm s → AllByRecursion (λ m. is_among (all_names s) m ≡ true) (flat_map set_names s.items)
 sets_among s f =
     all_from (λ m. is_among (all_names s) m ≡ true) (flat_map set_names s.items)
     (λ n h. to_set_among s n f (all_at (λ m. is_among (to_set s) m ≡ true) (flat_map set_names s.items) n f.sets_known h))
 
 -- an input is one of the names
-pub inputs_among : (s : Small) → IsFirstForm s → (n : List ℕ) → is_among (inputs_of s) n ≡ true → is_among (all_names s) n ≡ true
+pub inputs_among : (s : Small) → IsGateForm s → (n : List ℕ) → is_among (inputs_of s) n ≡ true → is_among (all_names s) n ≡ true
 inputs_among s f n h = among_front s.ports (wire_names s) n (input_listed s n f h)
 
 -- one more known name
@@ -81,11 +81,13 @@ lines_fit names known (Xor name a b y ∷ cs) all sets r =
     let rest = lines_fit names (y.name ∷ known) cs (more_known names known y.name sets.0 all) sets.1 r.1 in
     and_from _ _ (and_from _ _ (below names y.name sets.0) (and_from _ _ (below names a.name (all a.name r.0.0)) (below names b.name (all b.name r.0.1.0)))) rest
 lines_fit names known (Assign target from ∷ cs) all sets r = lines_fit names known cs all sets r.1
-lines_fit names known (And name a b y ∷ cs) all sets r = lines_fit names known cs all sets r.1
+lines_fit names known (And name a b y ∷ cs) all sets r =
+    let rest = lines_fit names (y.name ∷ known) cs (more_known names known y.name sets.0 all) sets.1 r.1 in
+    and_from _ _ (and_from _ _ (below names y.name sets.0) (and_from _ _ (below names a.name (all a.name r.0.0)) (below names b.name (all b.name r.0.1.0)))) rest
 lines_fit names known (Register name c d q ∷ cs) all sets r = lines_fit names known cs all sets r.1
 
 -- all numbers in the net are those of wires
-pub numbers_right : (s : Small) → IsFirstForm s → IsTrue (numbers_fit (first_net s))
+pub numbers_right : (s : Small) → IsGateForm s → IsTrue (numbers_fit (first_net s))
 numbers_right s f = and_from _ _ (lines_fit (all_names s) (inputs_of s) s.items (inputs_among s f) (sets_among s f) f.in_order) refl
 
 -- the names of input ports, in port order
@@ -122,7 +124,8 @@ lines_counted names w (Not name a y ∷ cs) =
 lines_counted names w (Xor name a b y ∷ cs) =
     line_counted w (number_in names y.name) (f_xor (f_wire (number_in names a.name)) (f_wire (number_in names b.name))) (flat_map (lines_in names) cs) (map (number_in names) (flat_map set_names cs)) (lines_counted names w cs)
 lines_counted names w (Assign target from ∷ cs) = lines_counted names w cs
-lines_counted names w (And name a b y ∷ cs) = lines_counted names w cs
+lines_counted names w (And name a b y ∷ cs) =
+    line_counted w (number_in names y.name) (f_and (f_wire (number_in names a.name)) (f_wire (number_in names b.name))) (flat_map (lines_in names) cs) (map (number_in names) (flat_map set_names cs)) (lines_counted names w cs)
 lines_counted names w (Register name c d q ∷ cs) = lines_counted names w cs
 
 -- a name stands among those that pass a test as often as among all, or never
@@ -164,17 +167,17 @@ filtered_among test names (x ∷ xs) all =
     ]
 
 -- a name that is set is set once, and the others are never set
-set_count : (s : Small) (n : List ℕ) → IsFirstForm s → is_among (to_set s) n ≡ true → count_by (λ m. bytes_eq m n) (flat_map set_names s.items) ≡ 1
+set_count : (s : Small) (n : List ℕ) → IsGateForm s → is_among (to_set s) n ≡ true → count_by (λ m. bytes_eq m n) (flat_map set_names s.items) ≡ 1
 set_count s n f h = all_at (λ p. count_by (λ m. bytes_eq m p) (flat_map set_names s.items) ≡ 1) (to_set s) n f.set_once h
 
 -- a name that is not to be set is never set
-unset_count : (s : Small) (n : List ℕ) → IsFirstForm s → is_among (to_set s) n ≡ false → count_by (λ m. bytes_eq m n) (flat_map set_names s.items) ≡ 0
+unset_count : (s : Small) (n : List ℕ) → IsGateForm s → is_among (to_set s) n ≡ false → count_by (λ m. bytes_eq m n) (flat_map set_names s.items) ≡ 0
 unset_count s n f h =
     count_none (λ m. bytes_eq m n) (flat_map set_names s.items)
     (false_from_ne_true (is_among (flat_map set_names s.items) n) (λ e. both_ways (is_among (to_set s) n) h (all_at (λ m. is_among (to_set s) m ≡ true) (flat_map set_names s.items) n f.sets_known e)))
 
 -- a name is an input port, or is set
-port_count : (s : Small) (n : List ℕ) → IsFirstForm s → is_among s.ports n ≡ true
+port_count : (s : Small) (n : List ℕ) → IsGateForm s → is_among s.ports n ≡ true
     → count_by (λ m. bytes_eq m n) (filter (is_in_name s) s.ports) + count_by (λ m. bytes_eq m n) (flat_map set_names s.items) ≡ 1
 port_count s n f h =
     let ways = ways_kept s.declarations n (declared_apart s f) (is_declared s n f h) in
@@ -193,7 +196,7 @@ port_count s n f h =
     ]
 
 -- a wire is no input port, and is set once
-wire_count : (s : Small) (n : List ℕ) → IsFirstForm s → is_among (wire_names s) n ≡ true
+wire_count : (s : Small) (n : List ℕ) → IsGateForm s → is_among (wire_names s) n ≡ true
     → count_by (λ m. bytes_eq m n) (filter (is_in_name s) s.ports) + count_by (λ m. bytes_eq m n) (flat_map set_names s.items) ≡ 1
 wire_count s n f h =
     let b = set_count s n f (among_back (flat_map output_names s.declarations) (wire_names s) n h) in
@@ -204,7 +207,7 @@ wire_count s n f h =
     ]
 
 -- each name is an input port or is set, once
-name_count : (s : Small) (n : List ℕ) → IsFirstForm s → is_among (all_names s) n ≡ true
+name_count : (s : Small) (n : List ℕ) → IsGateForm s → is_among (all_names s) n ≡ true
     → count_by (λ m. bytes_eq m n) (filter (is_in_name s) s.ports) + count_by (λ m. bytes_eq m n) (flat_map set_names s.items) ≡ 1
 name_count s n f h =
     elim (or_cases (is_among s.ports n) (is_among (wire_names s) n) (sym (among_append s.ports (wire_names s) n) ∙ h)) [ inl port ↦ port_count s n f port | inr wire ↦ wire_count s n f wire ]
@@ -214,7 +217,7 @@ ports_among : (s : Small) → AllByRecursion (λ m. is_among (all_names s) m ≡
 ports_among s = all_from (λ m. is_among (all_names s) m ≡ true) s.ports (λ n h. among_front s.ports (wire_names s) n h)
 
 -- the wire of each name has one driver
-drivers_at : (s : Small) (n : List ℕ) → IsFirstForm s → is_among (all_names s) n ≡ true → drivers (first_net s) (number_in (all_names s) n) ≡ 1
+drivers_at : (s : Small) (n : List ℕ) → IsGateForm s → is_among (all_names s) n ≡ true → drivers (first_net s) (number_in (all_names s) n) ≡ 1
 drivers_at s n f h =
     let names = all_names s in
     let w = number_in names n in
@@ -224,7 +227,7 @@ drivers_at s n f h =
     let c = name_count s n f h in omega arith
 
 -- each wire has one driver
-pub one_driver : (s : Small) (w : ℕ) → IsFirstForm s → w < length (all_names s) → drivers (first_net s) w ≡ 1
+pub one_driver : (s : Small) (w : ℕ) → IsGateForm s → w < length (all_names s) → drivers (first_net s) w ≡ 1
 one_driver s w f lt =
     let at = name_at (all_names s) w lt in
     subst (λ k. drivers (first_net s) k ≡ 1) (number_at (all_names s) w at.0 (all_apart s f) at.1) (drivers_at s at.0 f (among_at (all_names s) w at.0 at.1))

@@ -5,8 +5,9 @@ use Rattle.agm_net.specs.Plain.{Line}
 use Rattle.agm_net.specs.Writable.{IsWritable}
 use Rattle.agm_net.specs.declared.mark.Mark.TheVariants as kind
 use Rattle.agm_net.specs.declared.port.Port.{Port}
-use Rattle.small_text.specs.Grammar.{IsItem, IsDeclaration, IsWritableItem, IsWritableDeclaration}
-use Rattle.small_net.specs.Written.{mark_at, wire_declaration, line_item}
+use Rattle.small_text.specs.Grammar.{IsRange, IsItem, IsDeclaration, IsWritableItem, IsWritableDeclaration}
+use Rattle.small_net.specs.Texts.{mark_at}
+use Rattle.small_net.specs.Written.{wire_declaration, line_item}
 use Rattle.small_net.proofs.Apart.{all_at}
 use Rattle.small_net.proofs.Declared.{declared_ports, names_of}
 use Rattle.small_net.proofs.Instances.{IsGateLine, same, inverter, exclusive, items_from, instance_writable}
@@ -17,10 +18,10 @@ not_public None k = λ e. absurd (cc)
 not_public (Some c) k = elim (c == k) as (λ b. cond b kind.Clock kind.Unmarked ≢ kind.Public) [ true ↦ λ e. absurd (cc) | false ↦ λ e. absurd (cc) ]
 
 -- declarations keep the grammar
-pub declarations_fit : (clock : Option ℕ) (own : List (List ℕ)) (k : ℕ) (ps : List Port) → AllByRecursion IsDeclaration (declared_ports clock k ps ++ map wire_declaration own)
-declarations_fit clock [] k [] = tt
-declarations_fit clock (w ∷ ws) k [] = (omega arith, declarations_fit clock ws k [])
-declarations_fit clock own k (p ∷ ps) = ((not_public clock k, tt), declarations_fit clock own (k + 1) ps)
+pub declarations_fit : (clock : Option ℕ) (own : List (List ℕ)) (k : ℕ) (ps : List Port) → AllByRecursion (λ p. IsRange p.range) ps → AllByRecursion IsDeclaration (declared_ports clock k ps ++ map wire_declaration own)
+declarations_fit clock [] k [] ranges = tt
+declarations_fit clock (w ∷ ws) k [] ranges = (omega arith, declarations_fit clock ws k [] ranges)
+declarations_fit clock own k (p ∷ ps) ranges = ((not_public clock k, ranges.0), declarations_fit clock own (k + 1) ps ranges.1)
 
 -- an item keeps the grammar
 pub item_fits : (wires : List (List ℕ)) (n k : ℕ) {l : Line} → IsGateLine n l → IsItem (line_item wires (k, l))

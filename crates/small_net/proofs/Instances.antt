@@ -61,7 +61,7 @@ instances_from wires n k (l ∷ ls) gates fits =
     (own_names (AllByRecursion (IsInstanceFrom k)) wires n k gates.0 tt here) later
 
 -- an instance's name tells its number
-same_number : (k j : ℕ) → k < 2 ^ 64 → j < 2 ^ 64 → instance_name k ≡ instance_name j → k ≡ j
+pub same_number : (k j : ℕ) → k < 2 ^ 64 → j < 2 ^ 64 → instance_name k ≡ instance_name j → k ≡ j
 same_number k j hk hj e = let digits : decimal k ≡ decimal j = cc in decimal_injective k j hk hj digits
 
 -- the names of instances differ

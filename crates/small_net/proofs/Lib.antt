@@ -18,3 +18,11 @@ pub mod Decided
 pub mod Tables
 pub mod Walks
 pub mod Made
+pub mod Cases
+pub mod Sited
+pub mod Order
+pub mod OwnWires
+pub mod Renumbering
+pub mod NetlistScope
+pub mod NetlistNet
+pub mod NetlistStates

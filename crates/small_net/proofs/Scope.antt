@@ -81,7 +81,9 @@ same_port p range bits e f = rw (← e, ← f)
 module _ (s : Small) (wires : List (List ℕ)) (named : (k : ℕ) (name : List ℕ) → slice_get wires k ≡ Some name → wire_of s (plain_bit name) ≡ k) where
   -- a port from its facts and its bit
   pub port_again : (clock : Option ℕ) (k : ℕ) (p : Port) → p.range ≡ None → p.bits ≡ k ∷ [] → slice_get wires k ≡ Some p.name → facts_of s.declarations p.name ≡ port_facts clock k p → port_of s p.name ≡ p
-  port_again clock k p range bits at facts = rw (facts, named k p.name at) (same_port p None (k ∷ []) range bits)
+  port_again clock k p range bits at facts =
+      let one : map (wire_of s) (bits_of p.name p.range) ≡ k ∷ [] = ap (λ r. map (wire_of s) (bits_of p.name r)) range ∙ ap (λ j. j ∷ []) (named k p.name at) in
+      rw (facts, one) (same_port p p.range (k ∷ []) refl bits)
 
   -- and so for all ports
   pub ports_again : (clock : Option ℕ) (k : ℕ) (ps : List Port) → PortsAt wires k ps → DeclaredAs s.declarations clock k ps → map (port_of s) (names_of ps) ≡ ps
@@ -99,7 +101,7 @@ abbrev pub others : PlainNet → List (List ℕ)
 others net = drop (length net.ports) net.wires
 
 -- the scope of the module of a net whose ports' wires come first, and whose wires' names differ
-module _ (net : PlainNet) (at : PortsAt net.wires 0 net.ports) (apart : Apart net.wires) where
+module _ (net : PlainNet) (plain : AllByRecursion (λ p. p.range ≡ None) net.ports) (at : PortsAt net.wires 0 net.ports) (apart : Apart net.wires) where
   -- the wires' names are those of the ports, then the others
   pub split : names_of net.ports ++ others net ≡ net.wires
   split = rw zero-add at (names_then_rest net.wires 0 net.ports at)
@@ -109,7 +111,7 @@ module _ (net : PlainNet) (at : PortsAt net.wires 0 net.ports) (apart : Apart ne
 
   -- no name is declared with a range
   pub plain_names : (n : List ℕ) → (facts_of (declarations_of net) n).range ≡ None
-  plain_names n = no_range net.clock (others net) 0 net.ports n
+  plain_names n = no_range net.clock (others net) 0 net.ports n plain
 
   -- `wire` declarations declare the others
   pub declared_wires_are : wire_names (small_of net) ≡ others net

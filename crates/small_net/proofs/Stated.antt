@@ -1,4 +1,4 @@
--- A module of the first form states its net.
+-- A module of gates states its net.
 use Rattle.std.proofs.Common.{◌≡◌, ◌<◌, ◌≤◌, ◌==◌, ℕ, zero, suc, true, List, [], ◌∷◌, ◌++◌, length, map, count_by, Some, None, slice_get, refl, sym, ap, subst, ◌∙◌, arith}
 use Rattle.std.specs.List.{flat_map, AllByRecursion, range_with_len}
 use Rattle.std.specs.Str.{bytes_eq}
@@ -13,7 +13,7 @@ use Rattle.small_text.specs.declared.small.Item.{Item}
 use Rattle.small_text.specs.declared.small.Item.TheVariants.{Assign, Not, Xor, And, Register}
 use Rattle.small_text.specs.declared.small.Small.{Small}
 use Rattle.small_net.specs.States.{States, is_among, facts_of, declares, wire_names, own_wires, plain_bit, scope, wire_of, net_of, marks_of, item_bits, instance_names}
-use Rattle.small_net.specs.FirstForm.{IsFirstForm, IsPlainCell, set_names, ReadsEarlier, inputs_of}
+use Rattle.small_net.specs.FirstForm.{IsGateForm, IsPlainCell, set_names, ReadsEarlier, inputs_of}
 use Rattle.small_net.specs.First.{all_names, number_in, declared_ports, declared_ways, port_in, first_net}
 use Rattle.small_net.proofs.Among.{Apart, all_at, all_from, among_front, apart_front, apart_back, apart_sides, apart_joined, differ_from_apart}
 use Rattle.small_net.proofs.Numbers.{name_at_number, number_below, numbers_run, count_run}
@@ -27,7 +27,7 @@ port_bits names declared [] ways = refl
 port_bits names declared (p ∷ ps) ways = ap (λ ks. number_in names p ∷ ks) (port_bits names declared ps ways)
 
 -- the ports' wires come first, in port order
-pub ports_first : (s : Small) → IsFirstForm s → flat_map (λ p. p.bits) (first_net s).ports ≡ range_with_len 0 (length s.ports)
+pub ports_first : (s : Small) → IsGateForm s → flat_map (λ p. p.bits) (first_net s).ports ≡ range_with_len 0 (length s.ports)
 ports_first s f = port_bits (all_names s) (declared_ports s) s.ports (declared_ways s) ∙ numbers_run (all_names s) [] s.ports (wire_names s) (all_apart s f) refl
 
 -- the names of ports are those that are listed
@@ -45,7 +45,7 @@ bits_named names declared (x ∷ xs) ways all zero p h =
 bits_named names declared (x ∷ xs) ways all (suc n) p h = bits_named names declared xs ways all.1 n p h
 
 -- the ports are right
-ports_right : (s : Small) → IsFirstForm s → PortsAreRight (first_net s)
+ports_right : (s : Small) → IsGateForm s → PortsAreRight (first_net s)
 ports_right s f = record {
   ports_differ = subst Differ (sym (port_names_are (all_names s) (declared_ports s) s.ports (declared_ways s))) (differ_from_apart s.ports (apart_front s.ports (wire_names s) (all_apart s f)));
   bits_named = bits_named (all_names s) (declared_ports s) s.ports (declared_ways s) (all_from (λ n. is_among (all_names s) n ≡ true) s.ports (λ n h. among_front s.ports (wire_names s) n h));
@@ -54,7 +54,7 @@ ports_right s f = record {
 }
 
 -- the net in numbers is a net
-pub first_well_formed : (s : Small) → IsFirstForm s → WellFormed (first_net s)
+pub first_well_formed : (s : Small) → IsGateForm s → WellFormed (first_net s)
 first_well_formed s f = record {
   in_range = numbers_right s f;
   ports_right = ports_right s f;
@@ -63,14 +63,14 @@ first_well_formed s f = record {
 }
 
 -- a bit without a select whose name is one of the names is declared
-bit_declared : (s : Small) (b : Bit) → IsFirstForm s → b.index ≡ None → is_among (all_names s) b.name ≡ true → wire_of s b < length (scope s)
+bit_declared : (s : Small) (b : Bit) → IsGateForm s → b.index ≡ None → is_among (all_names s) b.name ≡ true → wire_of s b < length (scope s)
 bit_declared s b f none h =
     let lt = number_below (all_names s) b.name h in
     let e = wire_is s b f none in
     let len : length (scope s) ≡ length (all_names s) = ap length (scope_is s f) ∙ length-map (all_names s) plain_bit in omega arith
 
 -- each bit at a pin is declared
-bits_declared : (s : Small) (known : List (List ℕ)) (items : List Item) → IsFirstForm s → AllByRecursion IsPlainCell items
+bits_declared : (s : Small) (known : List (List ℕ)) (items : List Item) → IsGateForm s → AllByRecursion IsPlainCell items
     → ((n : List ℕ) → is_among known n ≡ true → is_among (all_names s) n ≡ true)
     → AllByRecursion (λ m. is_among (all_names s) m ≡ true) (flat_map set_names items) → ReadsEarlier known items
     → AllByRecursion (λ b. wire_of s b < length (scope s)) (flat_map item_bits items)
@@ -82,11 +82,13 @@ bits_declared s known (Xor name a b y ∷ cs) f plain all sets r =
     let rest = bits_declared s (y.name ∷ known) cs f plain.1 (more_known (all_names s) known y.name sets.0 all) sets.1 r.1 in
     (bit_declared s a f plain.0.0 (all a.name r.0.0), (bit_declared s b f plain.0.1 (all b.name r.0.1.0), (bit_declared s y f plain.0.2 sets.0, rest)))
 bits_declared s known (Assign target from ∷ cs) f plain all sets r = absurd plain.0
-bits_declared s known (And name a b y ∷ cs) f plain all sets r = absurd plain.0
+bits_declared s known (And name a b y ∷ cs) f plain all sets r =
+    let rest = bits_declared s (y.name ∷ known) cs f plain.1 (more_known (all_names s) known y.name sets.0 all) sets.1 r.1 in
+    (bit_declared s a f plain.0.0 (all a.name r.0.0), (bit_declared s b f plain.0.1 (all b.name r.0.1.0), (bit_declared s y f plain.0.2 sets.0, rest)))
 bits_declared s known (Register name c d q ∷ cs) f plain all sets r = absurd plain.0
 
 -- the names of instances differ from those of ports and wires, and each other
-instances_apart : (s : Small) → IsFirstForm s → Apart (flat_map instance_names s.items ++ (s.ports ++ own_wires s))
+instances_apart : (s : Small) → IsGateForm s → Apart (flat_map instance_names s.items ++ (s.ports ++ own_wires s))
 instances_apart s f =
     let instances = flat_map instance_names s.items in
     let all = names_apart s f in
@@ -94,9 +96,9 @@ instances_apart s f =
     (apart_joined instances (all_names s) (apart_back (all_names s) instances all) (all_apart s f)
     (λ n h. false_from_ne_true (is_among instances n) (λ e. both_ways (is_among (all_names s) n) (apart_sides (all_names s) instances n all e) h)))
 
--- a module of the first form states its net
-pub first_states : (s : Small) → IsFirstForm s → States s (net_of s) (marks_of s)
-first_states s f = record {
+-- a module of gates states its net
+pub gates_state : (s : Small) → IsGateForm s → States s (net_of s) (marks_of s)
+gates_state s f = record {
   net_is = refl;
   marks_are = refl;
   module_name = f.module_named;

@@ -1,8 +1,8 @@
--- The first form as a reader sees it, who keeps tables of names: tests of lists, and the net in numbers.
+-- Texts of gates as a reader sees them, who keeps tables of names: tests of lists, and the net in numbers.
 use Rattle.std.specs.Prelude.{◌≡◌, ◌++◌, ℕ, Bool, true, false, not, ◌&&◌, List, [], ◌∷◌, map, None, codes, nat_eq, is_none, slice_index_or, length, nat_lt}
 use Rattle.std.specs.List.{flat_map, list_all, position_or_len, starts_with}
 use Rattle.std.specs.Str.{bytes_eq}
-use Rattle.agm_net.specs.Formula.{f_wire, f_not, f_xor}
+use Rattle.agm_net.specs.Formula.{f_wire, f_not, f_xor, f_and}
 use Rattle.agm_net.specs.Plain.{Line, PlainNet, line_of}
 use Rattle.agm_net.specs.declared.expr.Equation.{Equation}
 use Rattle.agm_net.specs.declared.mark.Mark.{Mark}
@@ -13,10 +13,10 @@ use Rattle.agm_net.specs.declared.port.Port as net_port
 use Rattle.small_text.specs.declared.small.Declaration.{Declaration}
 use Rattle.small_text.specs.declared.small.Declaration.TheVariants.{Port, Wires}
 use Rattle.small_text.specs.declared.small.Item.{Item}
-use Rattle.small_text.specs.declared.small.Item.TheVariants.{Not, Xor}
+use Rattle.small_text.specs.declared.small.Item.TheVariants.{Not, Xor, And}
 use Rattle.small_text.specs.declared.small.Small.{Small}
 use Rattle.small_net.specs.States.{is_among, wire_names, instance_names}
-use Rattle.small_net.specs.FirstForm.{port_names, set_names, inputs_of}
+use Rattle.small_net.specs.FirstForm.{port_names, set_names, inputs_of, outputs_of}
 
 -- the ports' names, then the wires'
 abbrev pub all_names : Small → List (List ℕ)
@@ -39,6 +39,7 @@ is_plain_declaration (Wires names) = true
 abbrev pub is_plain_cell : Item → Bool
 is_plain_cell (Not name a y) = is_none a.index && is_none y.index
 is_plain_cell (Xor name a b y) = is_none a.index && (is_none b.index && is_none y.index)
+is_plain_cell (And name a b y) = is_none a.index && (is_none b.index && is_none y.index)
 is_plain_cell _ = false
 
 -- the test of the module's name, declarations, items and listed ports one by one
@@ -67,6 +68,7 @@ declared_ways s = flat_map port_ways s.declarations
 abbrev pub cell_runs : (names known : List (List ℕ)) → Item → Bool
 cell_runs names known (Not name a y) = is_among known a.name && (is_among names y.name && not (is_among known y.name))
 cell_runs names known (Xor name a b y) = is_among known a.name && (is_among known b.name && (is_among names y.name && not (is_among known y.name)))
+cell_runs names known (And name a b y) = is_among known a.name && (is_among known b.name && (is_among names y.name && not (is_among known y.name)))
 cell_runs names known _ = true
 
 -- whether each cell does, where it knows what the cells before it set
@@ -99,9 +101,28 @@ has_order s =
     (all_new [] (inputs_of s) && nat_lt 0 (length (inputs_of s)))
     && (all_run (all_names s) (inputs_of s) s.items && list_all (is_among (inputs_of s ++ flat_map set_names s.items)) (all_names s))
 
--- all tests of the first form
-abbrev pub is_first : Small → Bool
-is_first s = is_plain s && (has_names s && (has_instances s && (has_ports s && has_order s)))
+-- all tests of a text of gates
+abbrev pub is_gate_form : Small → Bool
+is_gate_form s = is_plain s && (has_names s && (has_instances s && (has_ports s && has_order s)))
+
+-- whether a cell is another than a product
+abbrev pub is_linear_cell : Item → Bool
+is_linear_cell (And name a b y) = false
+is_linear_cell _ = true
+
+-- whether a cell is a product whose output is one of these names
+abbrev pub is_product_of : List (List ℕ) → Item → Bool
+is_product_of outputs (And name a b y) = is_among outputs y.name
+is_product_of outputs _ = false
+
+-- whether there is one item, and it passes a test
+abbrev pub is_only : (Item → Bool) → List Item → Bool
+is_only test (c ∷ []) = test c
+is_only test _ = false
+
+-- whether the items are one product, whose output is an output port
+abbrev pub is_one_product : Small → Bool
+is_one_product s = is_only (is_product_of (outputs_of s)) s.items
 
 -- an input is marked secure, and an output is not marked
 abbrev pub mark_for : Way → Mark
@@ -117,9 +138,10 @@ port_in names declared ways p =
 abbrev pub lines_in : List (List ℕ) → Item → List Line
 lines_in names (Not name a y) = (number_in names y.name, f_not (f_wire (number_in names a.name))) ∷ []
 lines_in names (Xor name a b y) = (number_in names y.name, f_xor (f_wire (number_in names a.name)) (f_wire (number_in names b.name))) ∷ []
+lines_in names (And name a b y) = (number_in names y.name, f_and (f_wire (number_in names a.name)) (f_wire (number_in names b.name))) ∷ []
 lines_in names _ = []
 
--- the net that a text of the first form states
+-- the net that a text of gates states
 abbrev pub first_net : Small → PlainNet
 first_net s = record {
   ports = map (port_in (all_names s) (declared_ports s) (declared_ways s)) s.ports;

@@ -3,3 +3,5 @@ pub mod FirstForm
 pub mod Texts
 pub mod Written
 pub mod First
+pub mod Sites
+pub mod Netlist

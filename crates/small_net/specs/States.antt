@@ -1,5 +1,5 @@
 -- The net that a small text states.
-use Rattle.std.specs.Prelude.{◌≡◌, ◌<◌, ◌==◌, ◌++◌, ℕ, Bool, true, false, not, ◌&&◌, cond, List, [], ◌∷◌, length, map, filter, count_by, position, Option, Some, None, IsTrue, IsNone, codes, is_none}
+use Rattle.std.specs.Prelude.{◌≡◌, ◌<◌, ◌==◌, ◌++◌, ℕ, Bool, true, false, not, ◌&&◌, cond, List, [], ◌∷◌, length, map, filter, count_by, position, Option, Some, None, IsTrue, codes, is_none}
 use Rattle.std.specs.List.{flat_map, list_any, AllByRecursion, position_or_len, starts_with}
 use Rattle.std.specs.Str.{bytes_eq}
 use Rattle.std.specs.Prelude.{nat_eq}
@@ -9,7 +9,7 @@ use Rattle.agm_net.specs.WellFormed.{WellFormed, Differ}
 use Rattle.agm_net.specs.declared.mark.Mark.{Mark}
 use Rattle.agm_net.specs.declared.mark.Mark.TheVariants as kind
 use Rattle.agm_net.specs.declared.port.Way.{Way}
-use Rattle.agm_net.specs.declared.port.Way.TheVariants.{Input, Output}
+use Rattle.agm_net.specs.declared.port.Way.TheVariants.{Input}
 use Rattle.agm_net.specs.declared.port.Range.{Range}
 use Rattle.agm_net.specs.declared.port.Port as net_port
 use Rattle.small_text.specs.declared.small.Bit.{Bit}

@@ -1,16 +1,54 @@
 -- Texts and the nets that they state.
-use Rattle.std.specs.Prelude.{ℕ, List}
+use Rattle.std.specs.Prelude.{◌≡◌, ◌==◌, ℕ, List, Option, Some, None, cond, map, codes}
+use Rattle.std.specs.List.{enumerate_from}
 use Rattle.agm_net.specs.Plain.{PlainNet}
+use Rattle.agm_net.specs.Renumbered.{Renumbered}
 use Rattle.agm_net.specs.declared.mark.Mark.{Mark}
+use Rattle.agm_net.specs.declared.mark.Mark.TheVariants.{Unmarked, Clock}
 use Rattle.small_text.specs.declared.small.Small.{Small}
 use Rattle.small_text.specs.Grammar.{Spelled}
 use Rattle.small_net.specs.States.{States}
-use Rattle.small_net.specs.FirstForm.{IsFirstForm}
+use Rattle.agm_net.specs.View.{plain_of}
+use Rattle.small_net.specs.declared.original.Case.{Case}
+use Rattle.small_net.specs.declared.original.Case.TheVariants.{Linear, Product}
+use Rattle.small_net.specs.FirstForm.{IsFirstForm, IsLinearForm, IsProductForm}
 
--- the bytes are a text of the first form, and state a net whose ports have these marks
+-- the mark of the port of a number: the clock's where it is the clock
+abbrev pub mark_at : Option ℕ → ℕ → Mark
+mark_at None k = Unmarked
+mark_at (Some c) k = cond (c == k) Clock Unmarked
+
+-- the bytes are a text of this form, and state a net whose ports have these marks
+abbrev pub StatesBy : (Small → Type 0) → List ℕ → PlainNet → List Mark → Type 0
+StatesBy Form bytes net marks = (s : Small) × Spelled bytes s × Form s × States s net marks
+
+-- the bytes are a text of the first form as it is masked so far, and state a net whose ports have these marks
 abbrev pub StatesFirst : List ℕ → PlainNet → List Mark → Type 0
-StatesFirst bytes net marks = (s : Small) × Spelled bytes s × IsFirstForm s × States s net marks
+StatesFirst = StatesBy IsFirstForm
 
--- the bytes are a small text that states a net
+-- a module of this case states the net, whose ports have the marks
+abbrev pub IsCaseOf : Small → Case → Type 0
+IsCaseOf s (Linear x) = IsLinearForm s × States s (plain_of x.net) x.marks.kinds
+IsCaseOf s (Product x) = IsProductForm s × States s (plain_of x.net) x.marks.kinds
+
+-- a text of this case states the net, whose ports have the marks
+abbrev pub StatesCase : List ℕ → Case → Type 0
+StatesCase bytes case = (s : Small) × Spelled bytes s × IsCaseOf s case
+
+-- a module of neither case
+abbrev pub IsNoCase : Small → Type 0
+IsNoCase s = (IsLinearForm s → Prim.⊥) × (IsProductForm s → Prim.⊥)
+
+-- the marks of a net's ports in a text that is written for it: the clock's port is marked so, and no other port has a mark
+abbrev pub written_marks : PlainNet → List Mark
+written_marks net = map (λ p. mark_at net.clock p.0) (enumerate_from 0 net.ports)
+
+-- The bytes are a small text that states a net. Its module is called `agm_top`, and no port is marked but the clock's.
 abbrev pub StatesNet : List ℕ → PlainNet → Type 0
-StatesNet bytes net = (s : Small) × (marks : List Mark) × Spelled bytes s × States s net marks
+StatesNet bytes net = (s : Small) × Spelled bytes s × States s net (written_marks net) × (s.name ≡ codes "agm_top")
+
+-- The bytes are a small text that states the given net with its wires renumbered. Its module is called `agm_top`, and no port is marked
+-- but the clock's.
+abbrev pub StatesRenumbered : List ℕ → PlainNet → Type 0
+StatesRenumbered bytes net =
+    (s : Small) × (other : PlainNet) × Spelled bytes s × States s other (written_marks net) × Renumbered net other × (s.name ≡ codes "agm_top")

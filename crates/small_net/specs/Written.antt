@@ -1,11 +1,9 @@
 -- The small module that is written for a net.
-use Rattle.std.specs.Prelude.{◌==◌, ◌++◌, ℕ, false, cond, List, [], ◌∷◌, length, map, drop, Option, Some, None, codes, slice_index_or}
+use Rattle.std.specs.Prelude.{◌++◌, ℕ, false, List, [], ◌∷◌, length, map, drop, Option, codes, slice_index_or}
 use Rattle.std.specs.List.{enumerate_from}
 use Rattle.std.specs.Fmt.{decimal}
 use Rattle.agm_net.specs.Formula.{Formula, f_wire, f_not, f_xor}
 use Rattle.agm_net.specs.Plain.{Line, PlainNet}
-use Rattle.agm_net.specs.declared.mark.Mark.{Mark}
-use Rattle.agm_net.specs.declared.mark.Mark.TheVariants as kind
 use Rattle.agm_net.specs.declared.port.Port as net_port
 use Rattle.small_text.specs.declared.small.Bit.{Bit}
 use Rattle.small_text.specs.declared.small.Source.TheVariants as source
@@ -17,15 +15,11 @@ use Rattle.small_text.specs.declared.small.Small.{Small}
 use Rattle.small_net.specs.declared.module.Gate.{Gate}
 use Rattle.small_net.specs.declared.module.Gate.TheVariants as gate
 use Rattle.small_net.specs.States.{plain_bit}
-
--- the mark of the port of a number: the clock's where it is the clock
-abbrev pub mark_at : Option ℕ → ℕ → Mark
-mark_at None k = kind.Unmarked
-mark_at (Some c) k = cond (c == k) kind.Clock kind.Unmarked
+use Rattle.small_net.specs.Texts.{mark_at}
 
 -- the declaration of a port, from its number and the port
 abbrev pub port_declaration : Option ℕ → ℕ × net_port.Port → Declaration
-port_declaration clock p = Port (mark_at clock p.0) p.1.way None p.1.name
+port_declaration clock p = Port (mark_at clock p.0) p.1.way p.1.range p.1.name
 
 -- the declaration of one wire
 abbrev pub wire_declaration : List ℕ → Declaration

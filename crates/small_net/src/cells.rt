@@ -1,5 +1,6 @@
 ghost use Rattle.std.specs.Prelude.{◌≡◌, [], ◌∷◌, ◌++◌, ◌&&◌, true, false, not, map, length, nat_lt, IfOk, MatchOption};
 ghost use Rattle.std.specs.List.{list_all, flat_map};
+ghost use Rattle.agm_net.specs.Formula.{formula_of, f_and, f_wire};
 ghost use Rattle.agm_net.specs.Plain.{line_of};
 ghost use Rattle.small_net.specs.States.{is_among, instance_names};
 ghost use Rattle.small_net.specs.FirstForm.{input_names, set_names, inputs_of};
@@ -7,7 +8,7 @@ ghost use Rattle.small_net.specs.First as spec;
 
 use crate::names::{add, all_in, is_in, number};
 use agm_bits::{List, Memory, Name};
-use agm_net::{Equation, Way, not_of, xor_of};
+use agm_net::{Equation, Expr, Way, not_of, xor_of};
 use name_table::Names;
 use small_text::{Bit, Declaration, Item, Small};
 use std::alloc::Global;
@@ -88,7 +89,7 @@ fn run_cell(names: &Names, known: &mut Names, item: &Item) -> Result<bool, Memor
             }
             add_set(names, known, y)
         }
-        Item::Xor { a, b, y, .. } => {
+        Item::Xor { a, b, y, .. } | Item::And { a, b, y, .. } => {
             if !is_in(known, &a.name) || !is_in(known, &b.name) {
                 return Ok(false);
             }
@@ -128,6 +129,15 @@ pub(crate) fn has_order(
     Ok(all_in(&known, wires))
 }
 
+// The product of two wires.
+fn and_of(alloc: Global, x: usize, y: usize) -> Result<Expr, Memory>
+    ensures { IfOk result (λ e. formula_of e ≡ f_and (f_wire x) (f_wire y)) }
+{
+    let x = Box::new(alloc, Expr::Wire(x))?;
+    let y = Box::new(alloc, Expr::Wire(y))?;
+    Ok(Expr::And(x, y))
+}
+
 // The equation of a cell.
 fn equation_of(alloc: Global, names: &Names, item: &Item) -> Result<Option<Equation>, Memory>
     ensures { IfOk result (λ o. MatchOption o (spec.lines_in names.now item.now ≡ []) (λ e. spec.lines_in names.now item.now ≡ line_of e ∷ [])) }
@@ -140,6 +150,11 @@ fn equation_of(alloc: Global, names: &Names, item: &Item) -> Result<Option<Equat
         }
         Item::Xor { a, b, y, .. } => {
             let expr = xor_of(alloc, number(names, &a.name), number(names, &b.name))?;
+            let wire = number(names, &y.name);
+            Ok(Some(Equation { wire, expr }))
+        }
+        Item::And { a, b, y, .. } => {
+            let expr = and_of(alloc, number(names, &a.name), number(names, &b.name))?;
             let wire = number(names, &y.name);
             Ok(Some(Equation { wire, expr }))
         }

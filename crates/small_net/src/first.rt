@@ -3,13 +3,14 @@ ghost use Rattle.agm_net.specs.View.{plain_of};
 ghost use Rattle.small_text.specs.declared.small.Small.{Small};
 ghost use Rattle.small_text.specs.Grammar.{Spelled};
 ghost use Rattle.small_net.specs.States.{States};
-ghost use Rattle.small_net.specs.First.{is_first, AreParts};
-ghost use Rattle.small_net.specs.FirstForm.{IsFirstForm};
-ghost use Rattle.small_net.specs.Texts.{StatesFirst};
+ghost use Rattle.small_net.specs.First.{is_gate_form, AreParts};
+ghost use Rattle.small_net.specs.FirstForm.{IsGateForm, IsFirstForm};
+ghost use Rattle.small_net.specs.Texts.{StatesFirst, StatesCase, IsCaseOf, IsNoCase};
 
-use crate::Original;
+use crate::case::{is_linear, is_one_product};
 use crate::cells::{equations_of, has_instances, has_order};
 use crate::names::table_of;
+use crate::original::{Case, Original};
 use crate::plain::is_plain;
 use crate::ports::{all_names, marks_of, ports_of};
 use agm_bits::{List, Memory, Name};
@@ -17,7 +18,7 @@ use agm_net::{Equation, Marks, Net, Port};
 use small_text::{Small, one_small, read_small};
 use std::alloc::Global;
 
-// What a net of the first form consists of.
+// What the net of a module of gates consists of.
 #[derive(Debug, Drop)]
 struct Parts {
     ports: List<Port>,
@@ -26,9 +27,9 @@ struct Parts {
     marks: Marks,
 }
 
-// The parts of the net that a module states, None where the module is not of the first form.
+// The parts of the net that a module states, None where the module is none of gates.
 fn parts_of(alloc: Global, small: &Small) -> Result<Option<Parts>, Memory>
-    ensures { IfOk result (λ o. MatchOption o (is_first small.now ≡ false) (λ p. (is_first small.now ≡ true) × AreParts small.now p.ports p.wires p.equations p.marks.kinds)) }
+    ensures { IfOk result (λ o. MatchOption o (is_gate_form small.now ≡ false) (λ p. (is_gate_form small.now ≡ true) × AreParts small.now p.ports p.wires p.equations p.marks.kinds)) }
 {
     if !is_plain(small) {
         return Ok(None);
@@ -57,13 +58,9 @@ fn parts_of(alloc: Global, small: &Small) -> Result<Option<Parts>, Memory>
     }))
 }
 
-/// The net that a module of the first form states, with the marks of its ports; None exactly where the module is of another form.
-///
-/// # Errors
-///
-/// `Memory` where memory runs out.
-pub fn original_of(alloc: Global, small: &Small) -> Result<Option<Original>, Memory>
-    ensures { IfOk result (λ o. MatchOption o (IsFirstForm small.now → ⊥) (λ x. IsFirstForm small.now × States small.now (plain_of x.net) x.marks.kinds)) }
+// The net that a module of gates states, with the marks of its ports; None exactly where the module is of another form.
+fn gates_of(alloc: Global, small: &Small) -> Result<Option<Original>, Memory>
+    ensures { IfOk result (λ o. MatchOption o (IsGateForm small.now → ⊥) (λ x. IsGateForm small.now × States small.now (plain_of x.net) x.marks.kinds)) }
 {
     let found = parts_of(alloc, small)?;
     match found {
@@ -76,19 +73,56 @@ pub fn original_of(alloc: Global, small: &Small) -> Result<Option<Original>, Mem
                 marks,
             },
         ) => {
-            let net = Net {
-                ports,
-                wires,
-                equations,
-                registers: List::new(alloc),
-                clock: None,
-            };
+            let net = Net::from_parts(alloc, ports, wires, equations, List::new(alloc), None)?;
             Ok(Some(Original { net, marks }))
         }
     }
 }
 
-/// The net that a text of the first form states, None exactly where the bytes are no such text.
+/// The net that a module of the first form states, with the marks of its ports, by the module's case; None exactly where the module
+/// is of neither case.
+///
+/// # Errors
+///
+/// `Memory` where memory runs out.
+pub fn case_of(alloc: Global, small: &Small) -> Result<Option<Case>, Memory>
+    ensures { IfOk result (λ o. MatchOption o (IsNoCase small.now) (IsCaseOf small.now)) }
+{
+    let found = gates_of(alloc, small)?;
+    match found {
+        None => Ok(None),
+        Some(original) => {
+            if is_linear(small.items.as_slice()) {
+                return Ok(Some(Case::Linear(original)));
+            }
+            if is_one_product(small) {
+                return Ok(Some(Case::Product(original)));
+            }
+            Ok(None)
+        }
+    }
+}
+
+/// The net that a text of the first form states, by the text's case; None exactly where the bytes are no such text.
+///
+/// # Errors
+///
+/// `Memory` where memory runs out.
+pub fn read_case(alloc: Global, bytes: &[u8]) -> Result<Option<Case>, Memory>
+    ensures { IfOk result (λ o. MatchOption o ((s : Small) → Spelled bytes.now s → IsNoCase s) (StatesCase bytes.now)) }
+{
+    one_small();
+    let Some(small) = read_small(alloc, bytes)? else {
+        return Ok(None);
+    };
+    match case_of(alloc, &small)? {
+        None => Ok(None),
+        Some(case) => Ok(Some(case)),
+    }
+}
+
+/// The net that a text of the first form states, as it is masked so far: of the first case. None exactly where the bytes are no such
+/// text.
 ///
 /// # Errors
 ///
@@ -97,11 +131,8 @@ pub fn read_first(alloc: Global, bytes: &[u8]) -> Result<Option<Original>, Memor
     ensures { IfOk result (λ o. MatchOption o ((s : Small) → Spelled bytes.now s → IsFirstForm s → ⊥) (λ x. StatesFirst bytes.now (plain_of x.net) x.marks.kinds)) }
 {
     one_small();
-    let Some(small) = read_small(alloc, bytes)? else {
-        return Ok(None);
-    };
-    match original_of(alloc, &small)? {
-        None => Ok(None),
-        Some(original) => Ok(Some(original)),
+    match read_case(alloc, bytes)? {
+        Some(Case::Linear(original)) => Ok(Some(original)),
+        _ => Ok(None),
     }
 }

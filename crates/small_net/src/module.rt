@@ -4,6 +4,7 @@ ghost use Rattle.agm_net.specs.Formula.{formula_of};
 ghost use Rattle.agm_net.specs.Plain.{line_of};
 ghost use Rattle.agm_net.specs.View.{plain_of};
 ghost use Rattle.small_net.specs.Written.{port_declaration, wire_bit, line_item, declarations_of, small_of};
+ghost use Rattle.small_net.specs.Texts.{mark_at as mark_of};
 ghost use Rattle.small_net.specs.Written as spec;
 
 use agm_bits::{List, Memory, Name};
@@ -29,7 +30,7 @@ pub fn small_module(alloc: Global, net: &Net) -> Result<Small, Memory>
 }
 
 // The names of the ports.
-fn port_names(alloc: Global, ports: &[Port]) -> Result<List<Name>, Memory>
+pub(crate) fn port_names(alloc: Global, ports: &[Port]) -> Result<List<Name>, Memory>
     ensures { IfOk result (λ names. names ≡ map (λ p. p.name) ports.now) }
 {
     let mut names = List::new(alloc);
@@ -64,7 +65,7 @@ fn own_names(net: &Net) -> &[Name]
 
 // The declarations of the ports, in their order.
 #[tactic(auto, using(crate::proofs::Numbered::port_declarations_more))]
-fn port_declarations(
+pub(crate) fn port_declarations(
     alloc: Global,
     clock: Option<usize>,
     ports: &[Port],
@@ -76,7 +77,7 @@ fn port_declarations(
         let declaration = Declaration::Port {
             mark: mark_at(clock, number),
             way: port.way,
-            range: None,
+            range: port.range,
             name: Name::from_slice(alloc, port.name.as_slice())?,
         };
         out.push(declaration)?;
@@ -85,8 +86,8 @@ fn port_declarations(
 }
 
 // The mark of a port, from the clock's number and its own.
-fn mark_at(clock: Option<usize>, number: usize) -> Mark
-    ensures { result ≡ spec.mark_at clock number }
+pub(crate) fn mark_at(clock: Option<usize>, number: usize) -> Mark
+    ensures { result ≡ mark_of clock number }
 {
     match clock {
         Some(c) if c == number => Mark::Clock,
@@ -95,7 +96,7 @@ fn mark_at(clock: Option<usize>, number: usize) -> Mark
 }
 
 // The declaration of a wire.
-fn wire_declaration(alloc: Global, name: &Name) -> Result<Declaration, Memory>
+pub(crate) fn wire_declaration(alloc: Global, name: &Name) -> Result<Declaration, Memory>
     ensures { IfOk result (λ d. d ≡ spec.wire_declaration name.now) }
 {
     let mut names = List::new(alloc);
@@ -183,7 +184,7 @@ fn bit(alloc: Global, wires: &[Name], wire: usize) -> Result<Bit, Memory>
 }
 
 // The name of the instance for the equation of a number.
-fn instance_name(alloc: Global, number: usize) -> Result<Name, Memory>
+pub(crate) fn instance_name(alloc: Global, number: usize) -> Result<Name, Memory>
     ensures { IfOk result (λ name. name ≡ spec.instance_name number) }
 {
     let text = format!(in alloc; "agm_u{number}")?;

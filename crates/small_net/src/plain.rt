@@ -31,13 +31,15 @@ fn is_plain_declaration(declaration: &Declaration) -> bool
     }
 }
 
-// Whether an item is an inverter or an exclusive or, with no select at its pins.
+// Whether an item is an inverter, an exclusive or or a product, with no select at its pins.
 fn is_plain_cell(item: &Item) -> bool
     ensures { result ≡ spec.is_plain_cell item.now }
 {
     match item {
         Item::Not { a, y, .. } => a.index.is_none() && y.index.is_none(),
-        Item::Xor { a, b, y, .. } => a.index.is_none() && (b.index.is_none() && y.index.is_none()),
+        Item::Xor { a, b, y, .. } | Item::And { a, b, y, .. } => {
+            a.index.is_none() && (b.index.is_none() && y.index.is_none())
+        }
         _ => false,
     }
 }
@@ -72,7 +74,7 @@ fn has_port_names(ports: &[Name]) -> bool
     ports.iter().all(|p| is_port_name(p))
 }
 
-// Whether the module's name, its declarations, its items and its listed ports are each as the first form has them.
+// Whether the module's name, its declarations, its items and its listed ports are each as a text of gates has them.
 pub(crate) fn is_plain(small: &Small) -> bool
     ensures { result ≡ spec.is_plain small.now }
 {

@@ -1,6 +1,6 @@
 //! Texts of the first form with their nets, and texts that break one rule each: all worked out by hand.
 
-use crate::{Original, read_first};
+use crate::{Case, Original, read_case, read_first};
 use agm_net::{Mark, Net, Way};
 use std::alloc::Global;
 use std::test::Fail;
@@ -42,8 +42,11 @@ const FIVE_EQUATIONS: [&str; 5] = [
     "Equation { wire: 0, expr: Xor(Wire(1), Wire(7)) }",
 ];
 
+const PRODUCT: &str =
+    "module one(a, y); (* AGEMA = \"secure\" *) input a; output y; AGM_AND2 u (.A(a), .B(a), .Y(y)); endmodule";
+
 /// What is wrong, and a text where it is.
-const REFUSED: [(&str, &str); 23] = [
+const REFUSED: [(&str, &str); 24] = [
     ("no module", "wire a;"),
     (
         "a range",
@@ -126,8 +129,12 @@ const REFUSED: [(&str, &str); 23] = [
         "module m(a, y); (* AGEMA = \"secure\" *) input a; output y; wire x; AGM_NOT g (.A(x), .Y(y)); AGM_NOT h (.A(a), .Y(x)); endmodule",
     ),
     (
-        "a product",
-        "module m(a, b, y); (* AGEMA = \"secure\" *) input a; (* AGEMA = \"secure\" *) input b; output y; AGM_AND2 g (.A(a), .B(b), .Y(y)); endmodule",
+        "a product and another cell",
+        "module m(a, y, z); (* AGEMA = \"secure\" *) input a; output y; output z; AGM_AND2 g (.A(a), .B(a), .Y(y)); AGM_NOT h (.A(a), .Y(z)); endmodule",
+    ),
+    (
+        "a product for a wire",
+        "module m(a); (* AGEMA = \"secure\" *) input a; wire y; AGM_AND2 g (.A(a), .B(a), .Y(y)); endmodule",
     ),
     (
         "a register",
@@ -139,6 +146,14 @@ const REFUSED: [(&str, &str); 23] = [
 fn original(alloc: Global, text: &str) -> Result<Original, Fail> {
     match read_first(alloc, text.as_bytes()) {
         Ok(Some(original)) => Ok(original),
+        _ => Err(Fail::from(text)),
+    }
+}
+
+// The net of a text that is of the second case.
+fn product(alloc: Global, text: &str) -> Result<Original, Fail> {
+    match read_case(alloc, text.as_bytes()) {
+        Ok(Some(Case::Product(original))) => Ok(original),
         _ => Err(Fail::from(text)),
     }
 }
@@ -173,6 +188,14 @@ fn reads_cells(rt: HostRuntime) -> Result<(), Fail> {
     let five = original(alloc, FIVE)?;
     assert!(rt; has_wires(&five.net, &FIVE_WIRES));
     assert!(rt; has_equations(alloc, &five.net, &FIVE_EQUATIONS)?);
+    let one = product(alloc, PRODUCT)?;
+    assert!(rt;
+        has_equations(
+            alloc,
+            &one.net,
+            &["Equation { wire: 1, expr: And(Wire(0), Wire(0)) }"]
+        )?
+    );
     Ok(())
 }
 
@@ -204,7 +227,7 @@ fn lists_ports(rt: HostRuntime) -> Result<(), Fail> {
 fn refuses_other_texts(rt: HostRuntime) -> Result<(), Fail> {
     let alloc = rt.alloc();
     for (rule, text) in REFUSED {
-        match read_first(alloc, text.as_bytes()) {
+        match read_case(alloc, text.as_bytes()) {
             Ok(None) => {}
             _ => return Err(Fail::from(rule)),
         }
