@@ -80,18 +80,23 @@ driving_row d net inputs t = map (cycle_bits d net inputs t) (input_bits (masked
 abbrev pub driving_tape : ℕ → PlainNet → List Row → List Row
 driving_tape d net inputs = map (driving_row d net inputs) (range_with_len 0 (1 + length inputs))
 
+-- a table that has the rows of that tape on the inputs of a masked net
+pub record IsOnTape (d : ℕ) (net : PlainNet) (inputs table : List Row) : Type 0 where
+  pub as_long : length table ≡ length (driving_tape d net inputs)
+  pub inputs_given : (t : ℕ) → t < length table → map (bit_at table t) (input_bits (masked_net d net)) ≡ row_at (driving_tape d net inputs) t
+
 -- the row of a masked net has on the inputs the bits of its cycle
 abbrev Gives : ℕ → PlainNet → List Row → List Row → Type 0
 Gives d net inputs table = (t u : ℕ) → t < length table → IsTrue (list_any (λ b. b == u) (input_bits (masked_net d net))) → bit_at table t u ≡ cycle_bits d net inputs t u
 
--- a trace on that tape has the bits of each cycle
-tape_gives : (d : ℕ) (net : PlainNet) (power : Row) (inputs table : List Row) → IsTrace (masked_net d net) power (driving_tape d net inputs) table → Gives d net inputs table
-tape_gives d net power inputs table trace t u lt found =
+-- a table with that tape's bits has the bits of each cycle
+tape_gives : (d : ℕ) (net : PlainNet) (inputs table : List Row) → IsOnTape d net inputs table → Gives d net inputs table
+tape_gives d net inputs table on t u lt found =
     let long : length (driving_tape d net inputs) ≡ 1 + length inputs = length-map-range_with_len (driving_row d net inputs) 0 (1 + length inputs) in
-    let as_long = trace.as_long in
+    let as_long = on.as_long in
     let row : row_at (driving_tape d net inputs) t ≡ driving_row d net inputs t =
     get_or-map-range_with_len (driving_row d net inputs) 0 (1 + length inputs) t t [] (omega arith) (zero-add t) in
-    agree_at (bit_at table t) (cycle_bits d net inputs t) (input_bits (masked_net d net)) (trace.inputs_given t lt ∙ row) u found
+    agree_at (bit_at table t) (cycle_bits d net inputs t) (input_bits (masked_net d net)) (on.inputs_given t lt ∙ row) u found
 
 -- the value of the load signal
 load_value : (d : ℕ) (net : PlainNet) (inputs table : List Row) → Gives d net inputs table → (t : ℕ) → t < length table
@@ -126,13 +131,13 @@ no_secret_state : (d : ℕ) (net : PlainNet) (bit : ℕ → Bool) → reverse (r
 no_secret_state d net bit =
     ap reverse (rows_recombine d (λ w i. false) [] (λ i. port_value (masked_net d net) (state_name i) bit) (λ i lt. no_share_named d bit (state_name i) net.ports (λ j x. refl)))
 
--- a trace on that tape is driven by one stream of these inputs
-pub driving_tape_drives : (d : ℕ) (net : PlainNet) (marks : List Mark) (power : Row) (inputs table : List Row) → d ≤ 7 → WellFormed net → IsSimple net marks
-    → AllByRecursion (λ row. length row ≡ length (input_bits net)) inputs → IsTrace (masked_net d net) power (driving_tape d net inputs) table
+-- a table on that tape is driven by one stream of these inputs
+pub driving_tape_drives : (d : ℕ) (net : PlainNet) (marks : List Mark) (inputs table : List Row) → d ≤ 7 → WellFormed net → IsSimple net marks
+    → AllByRecursion (λ row. length row ≡ length (input_bits net)) inputs → IsOnTape d net inputs table
     → Drives net [] (simple_report d net) (masked_net d net) (record { initial = []; steps = inputs } ∷ []) (length inputs) table
-driving_tape_drives d net marks power inputs table last well simple widths trace =
-    let gives = tape_gives d net power inputs table trace in
-    let long : length table ≡ 1 + length inputs = trace.as_long ∙ length-map-range_with_len (driving_row d net inputs) 0 (1 + length inputs) in
+driving_tape_drives d net marks inputs table last well simple widths on =
+    let gives = tape_gives d net inputs table on in
+    let long : length table ≡ 1 + length inputs = on.as_long ∙ length-map-range_with_len (driving_row d net inputs) 0 (1 + length inputs) in
     let streams = stream ∷ [] in
     let only : (s : ℕ) → s < 1 → stream_at streams s ≡ stream = one_stream in
     let wide : (k : ℕ) → k < length inputs → length (row_at inputs k) ≡ length (bits_in net) = λ k lt.
@@ -159,7 +164,7 @@ driving_tape_drives d net marks power inputs table last well simple widths trace
     one_stream (suc s) lt = absurd (omega arith)
 
 -- the rows of the tape are as wide as the input bits
-driving_tape_fits : (d : ℕ) (net : PlainNet) (inputs : List Row) → AllByRecursion (λ row. length row ≡ length (input_bits (masked_net d net))) (driving_tape d net inputs)
+pub driving_tape_fits : (d : ℕ) (net : PlainNet) (inputs : List Row) → AllByRecursion (λ row. length row ≡ length (input_bits (masked_net d net))) (driving_tape d net inputs)
 driving_tape_fits d net inputs =
     all_in_range (λ row. length row ≡ length (input_bits (masked_net d net))) (driving_row d net inputs) 0 (1 + length inputs)
     (λ t lt. length-map (input_bits (masked_net d net)) (cycle_bits d net inputs t))
@@ -171,4 +176,5 @@ pub simple_is_driven : (d : ℕ) (net : PlainNet) (marks : List Mark) (inputs : 
 simple_is_driven d net marks inputs last well masked simple widths =
     let tape = driving_tape d net inputs in
     let trace = masked_has_trace d net marks tape masked simple (driving_tape_fits d net inputs) in
-    (tape, map (settled_row (masked_net d net)) tape, trace, driving_tape_drives d net marks [] inputs (map (settled_row (masked_net d net)) tape) last well simple widths trace)
+    let on : IsOnTape d net inputs (map (settled_row (masked_net d net)) tape) = record { as_long = trace.as_long; inputs_given = trace.inputs_given } in
+    (tape, map (settled_row (masked_net d net)) tape, trace, driving_tape_drives d net marks inputs (map (settled_row (masked_net d net)) tape) last well simple widths on)

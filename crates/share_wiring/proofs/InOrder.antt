@@ -105,7 +105,7 @@ masked_order d known shares (l ∷ ls) h linear order =
     (masked_order d (λ w. (w == l.0) || known w) (known_and shares (map (share_line d l) (indices d))) ls (shares_known_more d known shares l h) linear.1 order.1)
 
 -- a wire is an input of some ports and others where it is one of either
-input_joined : (ps qs : List Port) (w : ℕ) → is_input_of (ps ++ qs) w ≡ (is_input_of ps w || is_input_of qs w)
+pub input_joined : (ps qs : List Port) (w : ℕ) → is_input_of (ps ++ qs) w ≡ (is_input_of ps w || is_input_of qs w)
 input_joined ps qs w = ap (list_any (λ b. b == w)) (inputs_joined ps qs) ∙ list_any-append (λ b. b == w) (inputs_of ps) (inputs_of qs)
 
 -- the image of a wire in a list is in the list of images
@@ -119,7 +119,7 @@ found_image f (v ∷ vs) w h =
     ]
 
 -- the input bits of one input port are its own
-one_input : (p : Port) (w : ℕ) → is_input p ≡ true → is_input_of (p ∷ []) w ≡ list_any (λ b. b == w) p.bits
+pub one_input : (p : Port) (w : ℕ) → is_input p ≡ true → is_input_of (p ∷ []) w ≡ list_any (λ b. b == w) p.bits
 one_input p w input = rw input (ap (list_any (λ b. b == w)) (append-nil p.bits))
 
 -- the shares of an input port's bit are bits of the ports of its shares

@@ -19,8 +19,11 @@ use Rattle.share_wiring.proofs.ShareWires.{times-range-le}
 abbrev pub one_bit : List ℕ → Way → ℕ → Port
 one_bit name way wire = record { name = name; way = way; range = None; bits = wire ∷ [] }
 
+abbrev pub the_output : Port
+the_output = one_bit (codes "y") Output 2
+
 abbrev pub the_ports : List Port
-the_ports = one_bit (codes "a") Input 0 ∷ one_bit (codes "b") Input 1 ∷ one_bit (codes "y") Output 2 ∷ []
+the_ports = one_bit (codes "a") Input 0 ∷ one_bit (codes "b") Input 1 ∷ the_output ∷ []
 
 abbrev pub the_wires : List (List ℕ)
 the_wires = codes "a" ∷ codes "b" ∷ codes "y" ∷ codes "x" ∷ []

@@ -80,7 +80,7 @@ reads_earlier known (l ∷ ls) w v f h =
     ]
 
 -- along a chain, places fall
-chain_falls : (rank : ℕ → ℕ) (related : ℕ → ℕ → Bool) → ((w v : ℕ) → IsTrue (related w v) → rank v < rank w) → (w : ℕ) (ws : List ℕ) → IsChain related w ws → rank (last_of w ws) ≤ rank w
+pub chain_falls : (rank : ℕ → ℕ) (related : ℕ → ℕ → Bool) → ((w v : ℕ) → IsTrue (related w v) → rank v < rank w) → (w : ℕ) (ws : List ℕ) → IsChain related w ws → rank (last_of w ws) ≤ rank w
 chain_falls rank related falls w [] c = omega arith
 chain_falls rank related falls w (v ∷ vs) c =
     let one = falls w v c.0 in

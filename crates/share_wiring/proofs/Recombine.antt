@@ -15,14 +15,14 @@ abbrev pub recombined : ℕ → (ℕ → Bool) → ℕ → Bool
 recombined d bit w = xor_below (d + 1) (λ i. bit (share_wire d w i))
 
 -- an inversion moves out of an exclusive or
-not_xor : (x y : Bool) → xor (not x) y ≡ not (xor x y)
+pub not_xor : (x y : Bool) → xor (not x) y ≡ not (xor x y)
 not_xor false false = refl
 not_xor false true = refl
 not_xor true false = refl
 not_xor true true = refl
 
 -- exclusive ors in another order
-xor_swap : (a b x y : Bool) → xor (xor a b) (xor x y) ≡ xor (xor a x) (xor b y)
+pub xor_swap : (a b x y : Bool) → xor (xor a b) (xor x y) ≡ xor (xor a x) (xor b y)
 xor_swap false false x y = refl
 xor_swap false true false y = refl
 xor_swap false true true false = refl
@@ -43,7 +43,7 @@ xor_same (suc n) f g h =
     let last : f n ≡ g n = h n (omega arith) in cc
 
 -- an exclusive or share by share
-xor_of_xors : (n : ℕ) (f g : ℕ → Bool) → xor_below n (λ i. xor (f i) (g i)) ≡ xor (xor_below n f) (xor_below n g)
+pub xor_of_xors : (n : ℕ) (f g : ℕ → Bool) → xor_below n (λ i. xor (f i) (g i)) ≡ xor (xor_below n f) (xor_below n g)
 xor_of_xors zero f g = refl
 xor_of_xors (suc n) f g = ap (λ x. xor x (xor (f n) (g n))) (xor_of_xors n f g) ∙ xor_swap (xor_below n f) (xor_below n g) (f n) (g n)
 
@@ -55,7 +55,7 @@ xor_of_not (suc (suc n)) bit w some =
     ap (λ x. xor x (bit (w (suc n)))) (xor_of_not (suc n) bit w (omega arith)) ∙ not_xor (xor_below (suc n) (λ i. bit (w i))) (bit (w (suc n)))
 
 -- the shares of a formula recombine to its value on the recombined wires
-formula_sum : (d : ℕ) (bit : ℕ → Bool) (f : Formula) → IsLinear f → xor_below (d + 1) (λ i. value bit (share_formula d i f)) ≡ value (recombined d bit) f
+pub formula_sum : (d : ℕ) (bit : ℕ → Bool) (f : Formula) → IsLinear f → xor_below (d + 1) (λ i. value bit (share_formula d i f)) ≡ value (recombined d bit) f
 formula_sum d bit (f_wire a) h = refl
 formula_sum d bit (f_not (f_wire a)) h = xor_of_not (d + 1) bit (λ i. share_wire d a i) (omega arith)
 formula_sum d bit (f_xor (f_wire a) (f_wire b)) h = xor_of_xors (d + 1) (λ i. bit (share_wire d a i)) (λ i. bit (share_wire d b i))
@@ -66,7 +66,7 @@ abbrev pub share_line : ℕ → Line → ℕ → Line
 share_line d l i = (share_wire d l.0 i, share_formula d i l.1)
 
 -- an equation holds
-abbrev holds : (ℕ → Bool) → Line → Type 0
+abbrev pub holds : (ℕ → Bool) → Line → Type 0
 holds bit l = bit l.0 ≡ value bit l.1
 
 -- where the shares' equations hold, the recombined bits fulfil the equations

@@ -32,7 +32,7 @@ same_value x y (f_mux s f g) a =
     let right = same_value x y g (λ w h. a w (or_right (stands w s) (stands w f || stands w g) (or_right (stands w f) (stands w g) h))) in cc
 
 -- one more wire on which two rows agree
-known_more : (known x y : ℕ → Bool) (v : ℕ) → Agree known x y → x v ≡ y v → Agree (λ w. (w == v) || known w) x y
+pub known_more : (known x y : ℕ → Bool) (v : ℕ) → Agree known x y → x v ≡ y v → Agree (λ w. (w == v) || known w) x y
 known_more known x y v a e w h =
     elim (or_cases (w == v) (known w) h) [ inl new ↦ let same : w ≡ v = eqb-true w v new in ap x same ∙ (e ∙ ap y (sym same)) | inr old ↦ a w old ]
 

@@ -4,3 +4,10 @@ pub mod Schedule
 pub mod Same
 pub mod ReportOf
 pub mod Masked
+pub mod Inverted
+pub mod Worked
+pub mod Gates
+pub mod Wiring
+pub mod Own
+pub mod Adds
+pub mod Built

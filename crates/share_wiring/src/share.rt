@@ -11,7 +11,7 @@ use std::alloc::Global;
 
 /// How the wires of a net are shared.
 #[derive(Clone, Copy)]
-pub struct Sharing {
+pub struct WireShares {
     /// How many wires the original has.
     pub wires: usize,
     pub order: usize,
@@ -19,14 +19,14 @@ pub struct Sharing {
     ghost fits: { wires * (order + 1) + 2 < 2 ^ 64 },
 }
 
-impl Sharing {
+impl WireShares {
     /// Fails where the count of all shares fits no `usize`, as a list of that many names would.
-    pub fn new(wires: usize, order: usize) -> Result<Sharing, Memory>
+    pub fn new(wires: usize, order: usize) -> Result<WireShares, Memory>
         requires { order ≤ 7 }
         ensures { IfOk result (λ s. (s.wires ≡ wires) × (s.order ≡ order)) }
     {
         match wires.checked_mul(order + 1) {
-            Some(shares) if shares <= usize::MAX - 2 => Ok(Sharing { wires, order }),
+            Some(shares) if shares <= usize::MAX - 2 => Ok(WireShares { wires, order }),
             _ => Err(Memory),
         }
     }

@@ -11,7 +11,7 @@ ghost use Rattle.share_wiring.specs.Shape.{indices};
 ghost use Rattle.share_wiring.specs.Same.{Same};
 ghost use Rattle.share_wiring.specs.ReportOf.{ReportOf};
 
-use crate::share::{Sharing, share_name, wire_name};
+use crate::share::{WireShares, share_name, wire_name};
 use crate::{Balance, Masked, Mode, Report};
 use agm_bits::{List, Memory, Name};
 use agm_net::{Equation, Marks, Net, Port, Way};
@@ -20,7 +20,7 @@ use std::alloc::Global;
 // Adds the names of the shares of a wire.
 fn push_names(
     alloc: Global,
-    sharing: Sharing,
+    sharing: WireShares,
     ports: usize,
     wire: usize,
     name: &[u8],
@@ -37,7 +37,7 @@ fn push_names(
 // The names of the masked net's wires.
 fn wires_of(
     alloc: Global,
-    sharing: Sharing,
+    sharing: WireShares,
     ports: usize,
     wires: &[Name],
 ) -> Result<List<Name>, Memory>
@@ -55,7 +55,7 @@ fn wires_of(
 // The shares of a port's bits.
 fn share_bits(
     alloc: Global,
-    sharing: Sharing,
+    sharing: WireShares,
     bits: &[usize],
     index: usize,
 ) -> Result<List<usize>, Memory>
@@ -71,7 +71,7 @@ fn share_bits(
 }
 
 // The port with a share of a port.
-fn share_port(alloc: Global, sharing: Sharing, port: &Port, index: usize) -> Result<Port, Memory>
+fn share_port(alloc: Global, sharing: WireShares, port: &Port, index: usize) -> Result<Port, Memory>
     requires within { All (λ w. w < sharing.wires) port.now.bits }
     requires index { index ≤ sharing.order }
     ensures { IfOk result (λ p. p ≡ share_port_of sharing.order port.now index) }
@@ -99,7 +99,7 @@ fn own_port(alloc: Global, name: &[u8], wire: usize) -> Result<Port, Memory>
 // Adds the ports with the shares of a port.
 fn push_ports(
     alloc: Global,
-    sharing: Sharing,
+    sharing: WireShares,
     port: &Port,
     out: &mut List<Port>,
 ) -> Result<(), Memory>
@@ -113,7 +113,7 @@ fn push_ports(
 }
 
 // The masked net's ports: the clock, the load signal and the shares of each port.
-fn ports_of(alloc: Global, sharing: Sharing, ports: &[Port]) -> Result<List<Port>, Memory>
+fn ports_of(alloc: Global, sharing: WireShares, ports: &[Port]) -> Result<List<Port>, Memory>
     requires { All (λ p. All (λ w. w < sharing.wires) p.bits) ports.now }
     ensures { IfOk result (λ out. out ≡ masked_ports sharing.order ports.now) }
 {
@@ -129,7 +129,7 @@ fn ports_of(alloc: Global, sharing: Sharing, ports: &[Port]) -> Result<List<Port
 // Adds the shares of an equation.
 fn push_equations(
     alloc: Global,
-    sharing: Sharing,
+    sharing: WireShares,
     equation: &Equation,
     out: &mut List<Equation>,
 ) -> Result<(), Memory>
@@ -148,7 +148,7 @@ fn push_equations(
 // The masked net's equations.
 fn equations_of(
     alloc: Global,
-    sharing: Sharing,
+    sharing: WireShares,
     equations: &[Equation],
 ) -> Result<List<Equation>, Memory>
     requires { All (λ e. (e.wire < sharing.wires) × IsTrue (reads_below sharing.wires (formula_of e.expr))) equations.now }
@@ -197,17 +197,11 @@ fn net_of(alloc: Global, net: &Net, order: u32) -> Result<Net, Memory>
     requires masked { WellFormed (masked_net order (plain_of net.now)) }
     ensures { IfOk result (λ masked. plain_of masked ≡ masked_net order (plain_of net.now)) }
 {
-    let sharing = Sharing::new(net.wires.len(), order as usize)?;
+    let sharing = WireShares::new(net.wires.len(), order as usize)?;
     let ports = ports_of(alloc, sharing, net.ports.as_slice())?;
     let wires = wires_of(alloc, sharing, net.ports.len(), net.wires.as_slice())?;
     let equations = equations_of(alloc, sharing, net.equations.as_slice())?;
-    Ok(Net {
-        ports,
-        wires,
-        equations,
-        registers: List::new(alloc),
-        clock: Some(0),
-    })
+    Net::from_parts(alloc, ports, wires, equations, List::new(alloc), Some(0))
 }
 
 /// Masks a simple net at an order, each wire on its shares: no gadget and no random bit is needed.

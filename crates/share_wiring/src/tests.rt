@@ -62,13 +62,7 @@ fn inverted_sum(alloc: Global) -> Result<Net, Memory>
     let ports = ports(alloc)?;
     let wires = wires(alloc)?;
     let equations = equations(alloc)?;
-    Ok(Net {
-        ports,
-        wires,
-        equations,
-        registers: List::new(alloc),
-        clock: None,
-    })
+    Net::from_parts(alloc, ports, wires, equations, List::new(alloc), None)
 }
 
 // Both inputs are secret.

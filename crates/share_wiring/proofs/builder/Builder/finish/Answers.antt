@@ -1,0 +1,34 @@
+use Rattle.std.proofs.Common.{◌≡◌, Some, List, length, sym, ap, subst, ◌∙◌}
+use Rattle.agm_net.proofs.Made.{made_with}
+use Rattle.agm_net.specs.Plain.{PlainNet}
+use Rattle.agm_net.specs.WellFormed.{WellFormed}
+use Rattle.agm_net.specs.Loop.{HasNoLoop}
+use Rattle.agm_net.specs.Trace.{Row, IsTrace, bit_at}
+use Rattle.share_wiring.specs.Wiring.{Wiring, IsRun, net_of}
+use Rattle.share_wiring.proofs.FinishedNet.{well_formed, no_loop, runs, finished}
+use Rattle.share_wiring.proofs.builder.Builder.finish.Goals as goal
+
+pub from_parts-requires : goal.from_parts-requires
+from_parts-requires c =
+    let old : Wiring = record { ports = c.self.inside.ports.items; wires = c.self.inside.wires.items; gadgets = c.self.inside.gadgets; given = c.self.inside.given } in
+    subst WellFormed (sym (finished old c.from_vec.result c.in_ok-names.names _ _ _ _ c.from_vec.ensures c.in_ok-names.ensures c.as_slice.ensures.value c.as_slice-2.ensures.value c.in_ok-equations.ensures c.in_ok-registers.ensures))
+    (well_formed old c.self.invariant.0)
+
+pub returns-clause-net : goal.returns-clause-net
+returns-clause-net c =
+    let old : Wiring = record { ports = c.self.inside.ports.items; wires = c.self.inside.wires.items; gadgets = c.self.inside.gadgets; given = c.self.inside.given } in
+    let same = finished old c.from_vec.result c.in_ok-names.names _ _ _ _ c.from_vec.ensures c.in_ok-names.ensures c.as_slice.ensures.value c.as_slice-2.ensures.value c.in_ok-equations.ensures c.in_ok-registers.ensures in
+    made_with c.from_vec.result c.in_ok-names.names c.in_ok-equations.equations c.in_ok-registers.registers (Some 0) (λ (net : PlainNet). net ≡ net_of c.args.self) c.from_parts.result c.from_parts.ensures (same ∙ ap net_of c.self.view_is)
+
+pub returns-clause-no_loop : goal.returns-clause-no_loop
+returns-clause-no_loop c =
+    let old : Wiring = record { ports = c.self.inside.ports.items; wires = c.self.inside.wires.items; gadgets = c.self.inside.gadgets; given = c.self.inside.given } in
+    let same = finished old c.from_vec.result c.in_ok-names.names _ _ _ _ c.from_vec.ensures c.in_ok-names.ensures c.as_slice.ensures.value c.as_slice-2.ensures.value c.in_ok-equations.ensures c.in_ok-registers.ensures in
+    made_with c.from_vec.result c.in_ok-names.names c.in_ok-equations.equations c.in_ok-registers.registers (Some 0) HasNoLoop c.from_parts.result c.from_parts.ensures (subst HasNoLoop (sym same) (no_loop old c.self.invariant.0))
+
+pub returns-clause-runs : goal.returns-clause-runs
+returns-clause-runs c =
+    let old : Wiring = record { ports = c.self.inside.ports.items; wires = c.self.inside.wires.items; gadgets = c.self.inside.gadgets; given = c.self.inside.given } in
+    let same = finished old c.from_vec.result c.in_ok-names.names _ _ _ _ c.from_vec.ensures c.in_ok-names.ensures c.as_slice.ensures.value c.as_slice-2.ensures.value c.in_ok-equations.ensures c.in_ok-registers.ensures in
+    made_with c.from_vec.result c.in_ok-names.names c.in_ok-equations.equations c.in_ok-registers.registers (Some 0) (λ (net : PlainNet). (power : Row) (tape table : List Row) → IsTrace net power tape table → IsRun c.args.self.wires (length table) (bit_at table)) c.from_parts.result c.from_parts.ensures
+    (λ power tape table trace. subst (λ (net : Wiring). IsRun net.wires (length table) (bit_at table)) c.self.view_is (runs old power tape table (subst (λ net. IsTrace net power tape table) same trace)))
