@@ -1,0 +1,6 @@
+pub mod PartNames
+pub mod Made
+pub mod Sums
+pub mod Rows
+pub mod Sizes
+pub mod Example

@@ -1,0 +1,10 @@
+use Rattle.std.proofs.Common.{◌+◌, ◌*◌}
+use Rattle.share_wiring.specs.Wiring.{share}
+use Rattle.hpc2_gadget.specs.Product.{SquareAt}
+use Rattle.hpc2_gadget.specs.Grown.{Grown, Fills}
+use Rattle.hpc2_gadget.proofs.gadget.squares.Given as goal
+
+abbrev pub invariant-loop-i : goal.invariant-loop-i
+invariant-loop-i g l =
+    Grown g.row.S l.place.gadget (49 + l.i * 3) 0 l.initial.builder l.builder
+    × Fills l.initial.builder l.builder g.row.S l.i l.shares (λ cycles bits k w. SquareAt cycles bits (share l.a.shares k) (share l.b.shares k) w)

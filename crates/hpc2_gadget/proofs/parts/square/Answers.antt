@@ -1,0 +1,6 @@
+use Rattle.std.proofs.Common.{arith}
+use Rattle.hpc2_gadget.proofs.Made.{grown_trans, grown_more}
+use Rattle.hpc2_gadget.proofs.parts.square.Goals as goal
+
+pub returns-clause-grown : goal.returns-clause-grown
+returns-clause-grown c = grown_more _ _ _ _ _ _ _ (omega arith) (grown_trans _ _ _ _ _ _ _ _ _ c.in_ok-before.ensures.grown c.in_ok-product.ensures.grown)

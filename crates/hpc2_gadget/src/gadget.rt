@@ -1,0 +1,229 @@
+//! The multiplication of two sharings.
+
+ghost use Rattle.std.specs.Prelude.{◌≡◌, ◌<◌, ◌≤◌, ◌+◌, ◌-◌, ◌*◌, ◌/◌, ◌^◌, length, ℕ, IfOk, OnOk, IsTrue};
+ghost use Rattle.share_wiring.specs.Wiring.{IsSharing, names, share};
+ghost use Rattle.share_wiring.specs.Adds.{Extends, AddsFact, random_bits};
+ghost use Rattle.hpc2_gadget.specs.Kinds.{kind_of, is_of_share};
+ghost use Rattle.hpc2_gadget.specs.Order.{rank, IsIndex, Below};
+ghost use Rattle.hpc2_gadget.specs.Product.{SquareAt, SameAt, InverseAt, RowAt, RowsAt, Multiplies};
+ghost use Rattle.hpc2_gadget.specs.Grown.{Grown, Makes, Fills, triangle};
+
+use crate::kind::Kind;
+use crate::names::Place;
+use crate::parts::{Side, gate, pair, square};
+use agm_bits::Memory;
+use share_wiring::{Builder, Gate, Sharing};
+
+// Parts of one kind that have the bits of a sharing.
+fn copies<const S: usize>(
+    builder: &mut Builder,
+    place: Place,
+    kind: Kind,
+    x: &Sharing<S>,
+) -> Result<Sharing<S>, Memory>
+    requires begun { place.gadget < builder.old.gadgets }
+    requires shares { place.shares ≡ S }
+    requires shared { IsTrue (is_of_share (kind_of kind)) }
+    requires order { (i : ℕ) → rank S (kind_of kind) i 0 ≡ rank S (kind_of kind) 0 0 + i }
+    requires index { (i : ℕ) → i < S → IsIndex S (kind_of kind) i 0 }
+    requires below { Below S place.gadget (rank S (kind_of kind) 0 0) (names builder.old.wires) }
+    requires inside { IsSharing builder.old.wires S x.now.shares }
+    ensures grown { OnOk result (Grown S place.gadget (rank S (kind_of kind) 0 0 + S) 0 builder.old builder.new) }
+    ensures filled { IfOk result (λ z. Fills builder.old builder.new S S z.shares (λ cycles bits k w. SameAt cycles bits (share x.now.shares k) w)) }
+{
+    let mut shares = [0usize; S];
+    for i in 0..S {
+        let wire = gate(builder, place, kind, i, 0, Gate::Same(x.shares[i]))?;
+        shares[i] = wire;
+    }
+    Ok(Sharing { shares })
+}
+
+// The inverses of the shares of the first factor.
+fn inverses<const S: usize>(
+    builder: &mut Builder,
+    place: Place,
+    x: &Sharing<S>,
+) -> Result<Sharing<S>, Memory>
+    requires begun { place.gadget < builder.old.gadgets }
+    requires shares { place.shares ≡ S }
+    requires below { Below S place.gadget 33 (names builder.old.wires) }
+    requires inside { IsSharing builder.old.wires S x.now.shares }
+    ensures grown { OnOk result (Grown S place.gadget (33 + S) 0 builder.old builder.new) }
+    ensures filled { IfOk result (λ z. Fills builder.old builder.new S S z.shares (λ cycles bits k w. InverseAt cycles bits (share x.now.shares k) w)) }
+{
+    let mut shares = [0usize; S];
+    for i in 0..S {
+        let wire = gate(builder, place, Kind::Na, i, 0, Gate::Not(x.shares[i]))?;
+        shares[i] = wire;
+    }
+    Ok(Sharing { shares })
+}
+
+// The products of the shares of one index.
+fn squares<const S: usize>(
+    builder: &mut Builder,
+    place: Place,
+    a: &Sharing<S>,
+    b: &Sharing<S>,
+) -> Result<Sharing<S>, Memory>
+    requires begun { place.gadget < builder.old.gadgets }
+    requires clock { place.clock < length builder.old.wires }
+    requires shares { place.shares ≡ S }
+    requires below { Below S place.gadget 49 (names builder.old.wires) }
+    requires first { IsSharing builder.old.wires S a.now.shares }
+    requires second { IsSharing builder.old.wires S b.now.shares }
+    ensures grown { OnOk result (Grown S place.gadget (49 + S * 3) 0 builder.old builder.new) }
+    ensures filled { IfOk result (λ z. Fills builder.old builder.new S S z.shares (λ cycles bits k w. SquareAt cycles bits (share a.now.shares k) (share b.now.shares k) w)) }
+{
+    let mut shares = [0usize; S];
+    for i in 0..S {
+        let wire = square(builder, place, i, a.shares[i], b.shares[i])?;
+        shares[i] = wire;
+    }
+    Ok(Sharing { shares })
+}
+
+// Adds the pairs of share j with the lower ones.
+fn row<const S: usize>(
+    builder: &mut Builder,
+    place: Place,
+    j: usize,
+    a: &Sharing<S>,
+    inverse: &Sharing<S>,
+    b: &Sharing<S>,
+    sums: &Sharing<S>,
+) -> Result<Sharing<S>, Memory>
+    requires begun { place.gadget < builder.old.gadgets }
+    requires clock { place.clock < length builder.old.wires }
+    requires shares { place.shares ≡ S }
+    requires index { j < S }
+    requires below { Below S place.gadget (97 + j * 320) (names builder.old.wires) }
+    requires random { builder.old.given + j ≤ length (random_bits builder.old.ports) }
+    requires first { IsSharing builder.old.wires S a.now.shares }
+    requires inverted { IsSharing builder.old.wires S inverse.now.shares }
+    requires second { IsSharing builder.old.wires S b.now.shares }
+    requires summed { IsSharing builder.old.wires S sums.now.shares }
+    requires full { length sums.now.shares ≡ S }
+    ensures grown { OnOk result (Grown S place.gadget (97 + (j * 320 + j * 20)) j builder.old builder.new) }
+    ensures made { IfOk result (λ z. Makes builder.old builder.new S z.shares (λ cycles bits. RowAt S j j cycles bits a.now.shares inverse.now.shares b.now.shares sums.now.shares z.shares)) }
+{
+    let mut shares = sums.shares;
+    for i in 0..j {
+        let x = Side {
+            a: a.shares[i],
+            inverse: inverse.shares[i],
+            b: b.shares[i],
+            sum: shares[i],
+        };
+        let y = Side {
+            a: a.shares[j],
+            inverse: inverse.shares[j],
+            b: b.shares[j],
+            sum: shares[j],
+        };
+        let (low, high) = pair(builder, place, i, j, x, y)?;
+        shares[i] = low;
+        shares[j] = high;
+    }
+    Ok(Sharing { shares })
+}
+
+// Adds the pairs of all shares.
+fn rows<const S: usize>(
+    builder: &mut Builder,
+    place: Place,
+    a: &Sharing<S>,
+    inverse: &Sharing<S>,
+    b: &Sharing<S>,
+    sums: &Sharing<S>,
+) -> Result<Sharing<S>, Memory>
+    requires begun { place.gadget < builder.old.gadgets }
+    requires clock { place.clock < length builder.old.wires }
+    requires shares { place.shares ≡ S }
+    requires below { Below S place.gadget 97 (names builder.old.wires) }
+    requires random { builder.old.given + triangle S ≤ length (random_bits builder.old.ports) }
+    requires first { IsSharing builder.old.wires S a.now.shares }
+    requires inverted { IsSharing builder.old.wires S inverse.now.shares }
+    requires second { IsSharing builder.old.wires S b.now.shares }
+    requires summed { IsSharing builder.old.wires S sums.now.shares }
+    requires full { length sums.now.shares ≡ S }
+    ensures grown { OnOk result (Grown S place.gadget (97 + S * 320) (triangle S) builder.old builder.new) }
+    ensures made { IfOk result (λ z. Makes builder.old builder.new S z.shares (λ cycles bits. RowsAt S S cycles bits a.now.shares inverse.now.shares b.now.shares sums.now.shares z.shares)) }
+{
+    let mut all = *sums;
+    for j in 0..S {
+        all = row(builder, place, j, a, inverse, b, &all)?;
+    }
+    Ok(all)
+}
+
+// The parts from the shares of the factors to those of the product.
+fn product<const S: usize>(
+    builder: &mut Builder,
+    place: Place,
+    x: &Sharing<S>,
+    y: &Sharing<S>,
+) -> Result<Sharing<S>, Memory>
+    requires begun { place.gadget < builder.old.gadgets }
+    requires clock { place.clock < length builder.old.wires }
+    requires shares { place.shares ≡ S }
+    requires below { Below S place.gadget 1 (names builder.old.wires) }
+    requires random { builder.old.given + triangle S ≤ length (random_bits builder.old.ports) }
+    requires first { IsSharing builder.old.wires S x.now.shares }
+    requires second { IsSharing builder.old.wires S y.now.shares }
+    ensures grown { OnOk result (Grown S place.gadget (97 + S * 320) (triangle S) builder.old builder.new) }
+    ensures shares { IfOk result (λ c. IsSharing builder.new.wires S c.shares) }
+    ensures product { IfOk result (λ c. AddsFact builder.old builder.new (λ cycles bits. Multiplies S cycles bits x.now.shares y.now.shares c.shares)) }
+{
+    let a = copies(builder, place, Kind::A, x)?;
+    let b = copies(builder, place, Kind::B, y)?;
+    let inverse = inverses(builder, place, &a)?;
+    let sums = squares(builder, place, &a, &b)?;
+    let all = rows(builder, place, &a, &inverse, &b, &sums)?;
+    Ok(all)
+}
+
+/// Adds a gadget that multiplies two sharings: in every trace its answer in cycle t+2 recombines to the product of `a` in cycle t+1
+/// and `b` in cycle t.
+///
+/// It takes S (S - 1) / 2 fresh random bits. After `Memory` some parts may have been added.
+///
+/// This is HPC2 (Cassiers, Grégoire, Levi and Standaert, "Hardware Private Circuits: From Trivial Composition to Full
+/// Verification", IEEE Transactions on Computers, 2021).
+pub fn multiply<const S: usize>(
+    builder: &mut Builder,
+    a: &Sharing<S>,
+    b: &Sharing<S>,
+) -> Result<Sharing<S>, Memory>
+    requires first { IsSharing builder.old.wires S a.now.shares }
+    requires second { IsSharing builder.old.wires S b.now.shares }
+    requires size { (2 ≤ S) × (S ≤ 16) }
+    requires random { builder.old.given + S * (S - 1) / 2 ≤ length (random_bits builder.old.ports) }
+    requires gadgets { builder.old.gadgets < 2 ^ 32 }
+    ensures extends { OnOk result (Extends builder.old builder.new) }
+    ensures ports { OnOk result (builder.new.ports ≡ builder.old.ports) }
+    ensures gadgets { OnOk result (builder.new.gadgets ≡ builder.old.gadgets + 1) }
+    ensures given { OnOk result (builder.new.given ≡ builder.old.given + S * (S - 1) / 2) }
+    ensures shares { IfOk result (λ c. IsSharing builder.new.wires S c.shares) }
+    ensures product { IfOk result (λ c. AddsFact builder.old builder.new (λ cycles bits. Multiplies S cycles bits a.now.shares b.now.shares c.shares)) }
+{
+    let gadget = builder.begin_gadget();
+    let alloc = builder.alloc();
+    let source = Place {
+        alloc,
+        gadget,
+        shares: S,
+        clock: builder.clock(),
+    };
+    let clock = gate(builder, source, Kind::Clk, 0, 0, Gate::Same(source.clock))?;
+    let place = Place {
+        alloc,
+        gadget,
+        shares: S,
+        clock,
+    };
+    let shares = product(builder, place, a, b)?;
+    let answer = builder.copy(&shares)?;
+    Ok(answer)
+}
