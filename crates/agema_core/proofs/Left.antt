@@ -1,5 +1,5 @@
 -- What the steps of a run leave.
-use Rattle.std.proofs.Common.{◌≡◌, ◌≢◌, ◌+◌, ◌<◌, ◌++◌, ◌⊎◌, ℕ, List, [], ◌∷◌, Bool, IsTrue, Option, Some, Ok, Err, Result, OnErr, length, take, refl, sym, ap, subst, ◌∙◌, inl, inr, arith, codes, length-append}
+use Rattle.std.proofs.Common.{◌≡◌, ◌≢◌, ◌++◌, ℕ, List, [], ◌∷◌, Bool, IsTrue, Option, Some, Ok, Err, Result, OnErr, length, take, refl, sym, ap, subst, ◌∙◌, inl, inr, arith, codes, length-append}
 use Rattle.agm_shelf.specs.Shelf.{Contents, AllStay, IsFrontOrOld, TakesFront, text_of}
 use Rattle.agema_core.specs.Words.{Mask}
 use Rattle.agema_core.specs.Masks.{Masks, report_name}
@@ -38,16 +38,16 @@ net_part out net report old mid new held kept same front =
     }
 
 -- the print's end, behind files that are whole
-pub printed : (out net report line : List ℕ) (told : Bool) (old new : Contents) (heard : Bool) (before now : List ℕ) (f0 f1 : ℕ) (ended : Ended) → IsPrintEnd f0 f1 ended
+pub printed : (out net report line : List ℕ) (told : Bool) (old new : Contents) (heard : Bool) (before now : List ℕ) (sound : Bool) (f0 f1 : ℕ) (ended : Ended) → IsPrintEnd sound f0 f1 ended
     → (IsTrue told → LeftWhole out net report new) → (ended ≡ Done → IsTrue heard → now ≡ before ++ line) → (ended ≢ Done → IsTrue heard → TakesFront line before now)
     → Leaves out net report line told old new heard before now ended
-printed out net report line told old new heard before now f0 f1 Done end whole done front = (whole, done refl)
-printed out net report line told old new heard before now f0 f1 PrintFault end whole done front = (whole, front (λ e. cc))
-printed out net report line told old new heard before now f0 f1 Memory end whole done front = ((λ t. whole_part out net report old new (whole t)), front (λ e. cc))
-printed out net report line told old new heard before now f0 f1 Usage end whole done front = absurd end
-printed out net report line told old new heard before now f0 f1 (ReadFault file) end whole done front = absurd end
-printed out net report line told old new heard before now f0 f1 (WriteFault file) end whole done front = absurd end
-printed out net report line told old new heard before now f0 f1 (Refused refusal) end whole done front = absurd end
+printed out net report line told old new heard before now sound f0 f1 Done end whole done front = (whole, done refl)
+printed out net report line told old new heard before now sound f0 f1 PrintFault end whole done front = (whole, front (λ e. cc))
+printed out net report line told old new heard before now sound f0 f1 Memory end whole done front = ((λ t. whole_part out net report old new (whole t)), front (λ e. cc))
+printed out net report line told old new heard before now sound f0 f1 Usage end whole done front = absurd end
+printed out net report line told old new heard before now sound f0 f1 (ReadFault file) end whole done front = absurd end
+printed out net report line told old new heard before now sound f0 f1 (WriteFault file) end whole done front = absurd end
+printed out net report line told old new heard before now sound f0 f1 (Refused refusal) end whole done front = absurd end
 
 -- contents that are the same at each name
 same_part : (out net report : List ℕ) (old mid new : Contents) → AllStay old mid → LeftPart out net report mid new → LeftPart out net report old new
@@ -68,20 +68,20 @@ same_leaves out net report line told old mid new heard before now (ReadFault fil
 same_leaves out net report line told old mid new heard before now (Refused refusal) same h = h
 
 left_by : (m : Mask) (told : Bool) (old new : Contents) (heard : Bool) (before now : List ℕ) (ended : Ended) → LeavesMasked m told old new heard before now ended
-    → ((w0 w1 p0 p1 : ℕ) → IsDelivery m.out w0 w1 p0 p1 ended → HasLeft m told old new heard before now ended)
-left_by m told old new heard before now Done h w0 w1 p0 p1 d = h
-left_by m told old new heard before now PrintFault h w0 w1 p0 p1 d = h
-left_by m told old new heard before now (WriteFault file) h w0 w1 p0 p1 d = h
-left_by m told old new heard before now Memory h w0 w1 p0 p1 d = inr h
-left_by m told old new heard before now Usage h w0 w1 p0 p1 d = absurd d
-left_by m told old new heard before now (ReadFault file) h w0 w1 p0 p1 d = absurd d
-left_by m told old new heard before now (Refused refusal) h w0 w1 p0 p1 d = absurd d
+    → ((sound prints : Bool) (w0 w1 p0 p1 : ℕ) → IsDelivery m.out sound prints w0 w1 p0 p1 ended → HasLeft m told old new heard before now ended)
+left_by m told old new heard before now Done h sound prints w0 w1 p0 p1 d = h
+left_by m told old new heard before now PrintFault h sound prints w0 w1 p0 p1 d = h
+left_by m told old new heard before now (WriteFault file) h sound prints w0 w1 p0 p1 d = h
+left_by m told old new heard before now Memory h sound prints w0 w1 p0 p1 d = inr h
+left_by m told old new heard before now Usage h sound prints w0 w1 p0 p1 d = absurd d
+left_by m told old new heard before now (ReadFault file) h sound prints w0 w1 p0 p1 d = absurd d
+left_by m told old new heard before now (Refused refusal) h sound prints w0 w1 p0 p1 d = absurd d
 
 -- what a delivery leaves of the texts that mask what was read
-pub delivered : (m : Mask) (net report line text : List ℕ) (told : Bool) (old mid new : Contents) (heard : Bool) (before now : List ℕ) (w0 w1 p0 p1 : ℕ) (ended : Ended)
-    → AllStay old mid → (IsTrue told → text_of (old m.net) ≡ text) → Masks text m.order net report line → IsDelivery m.out w0 w1 p0 p1 ended
+pub delivered : (m : Mask) (net report line text : List ℕ) (told : Bool) (old mid new : Contents) (heard : Bool) (before now : List ℕ) (sound prints : Bool) (w0 w1 p0 p1 : ℕ) (ended : Ended)
+    → AllStay old mid → (IsTrue told → text_of (old m.net) ≡ text) → Masks text m.order net report line → IsDelivery m.out sound prints w0 w1 p0 p1 ended
     → Leaves m.out net report line told mid new heard before now ended → HasLeft m told old new heard before now ended
-delivered m net report line text told old mid new heard before now w0 w1 p0 p1 ended same read masks end leaves =
+delivered m net report line text told old mid new heard before now sound prints w0 w1 p0 p1 ended same read masks end leaves =
     let P : List ℕ → Type 0 = λ t. Masks t m.order net report line in
     let all : LeavesMasked m told old new heard before now ended = record {
       net = net;
@@ -90,7 +90,7 @@ delivered m net report line text told old mid new heard before now w0 w1 p0 p1 e
       masks = λ t. subst P (sym (read t)) masks;
       leaves = same_leaves m.out net report line told old mid new heard before now ended same leaves;
     } in
-    left_by m told old new heard before now ended all w0 w1 p0 p1 end
+    left_by m told old new heard before now ended all sound prints w0 w1 p0 p1 end
 
 -- what follows where a result is an error
 pub on_err_map : {T E P Q : Type 0} (r : Result T E) → OnErr r P → (P → Q) → OnErr r Q

@@ -1,5 +1,5 @@
 -- When each answer of a run comes, and what it leaves.
-use Rattle.std.specs.Prelude.{◌≡◌, ◌≢◌, ◌≤◌, ◌<◌, ◌⊎◌, ◌++◌, ℕ, List, Bool, IsTrue, Some, length, codes}
+use Rattle.std.specs.Prelude.{◌≡◌, ◌≢◌, ◌≤◌, ◌<◌, ◌⊎◌, ◌++◌, ℕ, List, Bool, IsTrue, Option, Some, None, length, codes}
 use Rattle.agm_shelf.specs.Shelf.{Rose, Contents, AllStay, IsFrontOrOld, TakesFront, text_of}
 use Rattle.share_wiring.specs.declared.report.Mode.TheVariants.{Naive}
 use Rattle.share_wiring.specs.declared.report.Balance.TheVariants.{Pipe}
@@ -7,7 +7,6 @@ use Rattle.agema_core.specs.Words.{Mask}
 use Rattle.agema_core.specs.Masks.{Masks, CanMask, IsNotFirst, IsTooLarge, length_limit, report_name}
 use Rattle.agema_core.specs.declared.ended.Ended.{Ended}
 use Rattle.agema_core.specs.declared.ended.Ended.TheVariants.{Done, Usage, ReadFault, WriteFault, PrintFault, Memory, Refused}
-use Rattle.agema_core.specs.declared.ended.Refusal.{Refusal}
 use Rattle.agema_core.specs.declared.ended.Refusal.TheVariants.{TooLong, TooLarge, NotBuilt}
 
 -- the words ask for what is built: no library, naive mode, pipelines
@@ -25,22 +24,67 @@ pub record Counts : Type 0 where
 abbrev pub counts : (reads writes prints : ℕ) → Counts
 counts reads writes prints = record { reads = reads; writes = writes; prints = prints }
 
+-- What a command finds: whether the shelf tells its contents and whether it is sound, whether the sink is sound, and what the
+-- netlist's name holds.
+pub record Found : Type 0 where
+  pub tells : Bool
+  pub sound : Bool
+  pub prints : Bool
+  pub held : Option (List ℕ)
+
+abbrev pub found : (tells sound prints : Bool) → Option (List ℕ) → Found
+found tells sound prints held = record { tells = tells; sound = sound; prints = prints; held = held }
+
+-- a text is held, of which this is true
+abbrev pub Holds : Option (List ℕ) → (List ℕ → Type 0) → Type 0
+Holds held Fact = (text : List ℕ) × (held ≡ Some text) × Fact text
+
+-- the same where the shelf tells its contents
+abbrev pub Told : (tells : Bool) → Option (List ℕ) → (List ℕ → Type 0) → Type 0
+Told tells held Fact = IsTrue tells → Holds held Fact
+
+-- a call of something failed: its count of faults rose, and it was not sound
+abbrev pub Fails : Bool → (before now : ℕ) → Type 0
+Fails sound before now = Rose before now × (IsTrue sound → Prim.⊥)
+
+-- a read failed: the count of faults rose, and a sound shelf holds nothing by that name
+abbrev pub ReadFails : (sound : Bool) → Option (List ℕ) → (before now : ℕ) → Type 0
+ReadFails sound held before now = Rose before now × (IsTrue sound → held ≡ None)
+
+-- the text is too long to be read
+abbrev pub IsTooLong : List ℕ → Type 0
+IsTooLong text = length_limit < length text
+
 -- the text is not too long, is of the first form, and its net is not too large
 abbrev pub IsFit : Mask → List ℕ → Type 0
 IsFit m text = (length text ≤ length_limit) × CanMask text m.order
 
--- When each answer may come, for the words m and the netlist's text where the shelf tells it. Each refusal of a text yields to a read
--- fault and to want of memory.
-abbrev pub HasCause : Mask → Bool → List ℕ → (before now : Counts) → Ended → Type 0
-HasCause m told text before now Done = IsBuilt m × (IsTrue told → IsFit m text)
-HasCause m told text before now Usage = Prim.⊥
-HasCause m told text before now (ReadFault file) = IsBuilt m × (file ≡ m.net) × Rose before.reads now.reads
-HasCause m told text before now (WriteFault file) = IsBuilt m × (IsTrue told → IsFit m text) × ((file ≡ m.out) ⊎ (file ≡ report_name m.out)) × Rose before.writes now.writes
-HasCause m told text before now PrintFault = IsBuilt m × (IsTrue told → IsFit m text) × Rose before.prints now.prints
-HasCause m told text before now Memory = IsBuilt m
-HasCause m told text before now (Refused (TooLong file)) = IsBuilt m × (file ≡ m.net) × (IsTrue told → length_limit < length text)
-HasCause m told text before now (Refused (TooLarge operators)) = IsBuilt m × (IsTrue told → (length text ≤ length_limit) × IsTooLarge text m.order operators)
-HasCause m told text before now (Refused NotBuilt) = (IsBuilt m → Prim.⊥) ⊎ (IsTrue told → (length text ≤ length_limit) × IsNotFirst text)
+-- When each answer may come, for the words m and what was found. Each refusal of a text yields to a read fault and to want of memory.
+abbrev pub HasCause : Mask → Found → (before now : Counts) → Ended → Type 0
+HasCause m f before now Done = IsBuilt m × Told f.tells f.held (IsFit m)
+HasCause m f before now Usage = Prim.⊥
+HasCause m f before now (ReadFault file) = IsBuilt m × (file ≡ m.net) × ReadFails f.sound f.held before.reads now.reads
+HasCause m f before now (WriteFault file) = IsBuilt m × Told f.tells f.held (IsFit m) × ((file ≡ m.out) ⊎ (file ≡ report_name m.out)) × Fails f.sound before.writes now.writes
+HasCause m f before now PrintFault = IsBuilt m × Told f.tells f.held (IsFit m) × Fails f.prints before.prints now.prints
+HasCause m f before now Memory = IsBuilt m
+HasCause m f before now (Refused (TooLong file)) = IsBuilt m × (file ≡ m.net) × Told f.tells f.held IsTooLong
+HasCause m f before now (Refused (TooLarge operators)) = IsBuilt m × Told f.tells f.held (λ text. (length text ≤ length_limit) × IsTooLarge text m.order operators)
+HasCause m f before now (Refused NotBuilt) = (IsBuilt m → Prim.⊥) ⊎ Told f.tells f.held (λ text. (length text ≤ length_limit) × IsNotFirst text)
+
+-- no count of faults rose
+pub record NoneRose (before now : Counts) : Type 0 where
+  pub reads : Rose before.reads now.reads → Prim.⊥
+  pub writes : Rose before.writes now.writes → Prim.⊥
+  pub prints : Rose before.prints now.prints → Prim.⊥
+
+-- nothing outside of the program fails: no count rose, or the shelf and the sink are sound
+abbrev pub NothingFails : Found → (before now : Counts) → Type 0
+NothingFails f before now = (IsTrue f.tells × NoneRose before now) ⊎ (IsTrue f.sound × IsTrue f.prints)
+
+-- Completeness: where the words ask for what is built, the netlist's name holds a text that fits, and nothing fails, the netlist is
+-- masked, or memory is wanted.
+abbrev pub IsComplete : Mask → Found → (before now : Counts) → Ended → Type 0
+IsComplete m f before now ended = IsBuilt m → Holds f.held (IsFit m) → NothingFails f before now → (ended ≡ Done) ⊎ (ended ≡ Memory)
 
 -- the program's exit status for each answer
 abbrev pub status_of : Ended → ℕ
@@ -55,38 +99,38 @@ status_of (Refused (TooLarge operators)) = 23
 status_of (Refused NotBuilt) = 31
 
 -- how the writing of one file may fail
-abbrev pub IsWriteEnd : List ℕ → (before now : ℕ) → Ended → Type 0
-IsWriteEnd name before now (WriteFault file) = (file ≡ name) × Rose before now
-IsWriteEnd name before now Memory = Unit {0}
-IsWriteEnd name before now _ = Prim.⊥
+abbrev pub IsWriteEnd : List ℕ → (sound : Bool) → (before now : ℕ) → Ended → Type 0
+IsWriteEnd name sound before now (WriteFault file) = (file ≡ name) × Fails sound before now
+IsWriteEnd name sound before now Memory = Unit {0}
+IsWriteEnd name sound before now _ = Prim.⊥
 
 -- how the writing of both files may fail
-abbrev pub IsWritesEnd : List ℕ → (before now : ℕ) → Ended → Type 0
-IsWritesEnd out before now (WriteFault file) = ((file ≡ out) ⊎ (file ≡ report_name out)) × Rose before now
-IsWritesEnd out before now Memory = Unit {0}
-IsWritesEnd out before now _ = Prim.⊥
+abbrev pub IsWritesEnd : List ℕ → (sound : Bool) → (before now : ℕ) → Ended → Type 0
+IsWritesEnd out sound before now (WriteFault file) = ((file ≡ out) ⊎ (file ≡ report_name out)) × Fails sound before now
+IsWritesEnd out sound before now Memory = Unit {0}
+IsWritesEnd out sound before now _ = Prim.⊥
 
 -- how the printing may end
-abbrev pub IsPrintEnd : (before now : ℕ) → Ended → Type 0
-IsPrintEnd before now Done = Unit {0}
-IsPrintEnd before now PrintFault = Rose before now
-IsPrintEnd before now Memory = Unit {0}
-IsPrintEnd before now _ = Prim.⊥
+abbrev pub IsPrintEnd : (sound : Bool) → (before now : ℕ) → Ended → Type 0
+IsPrintEnd sound before now Done = Unit {0}
+IsPrintEnd sound before now PrintFault = Fails sound before now
+IsPrintEnd sound before now Memory = Unit {0}
+IsPrintEnd sound before now _ = Prim.⊥
 
 -- how the writing and the printing may end
-abbrev pub IsDelivery : List ℕ → (writes_before writes_now prints_before prints_now : ℕ) → Ended → Type 0
-IsDelivery out w0 w1 p0 p1 Done = Unit {0}
-IsDelivery out w0 w1 p0 p1 (WriteFault file) = ((file ≡ out) ⊎ (file ≡ report_name out)) × Rose w0 w1
-IsDelivery out w0 w1 p0 p1 PrintFault = Rose p0 p1
-IsDelivery out w0 w1 p0 p1 Memory = Unit {0}
-IsDelivery out w0 w1 p0 p1 _ = Prim.⊥
+abbrev pub IsDelivery : List ℕ → (sound prints : Bool) → (writes_before writes_now prints_before prints_now : ℕ) → Ended → Type 0
+IsDelivery out sound prints w0 w1 p0 p1 Done = Unit {0}
+IsDelivery out sound prints w0 w1 p0 p1 (WriteFault file) = ((file ≡ out) ⊎ (file ≡ report_name out)) × Fails sound w0 w1
+IsDelivery out sound prints w0 w1 p0 p1 PrintFault = Fails prints p0 p1
+IsDelivery out sound prints w0 w1 p0 p1 Memory = Unit {0}
+IsDelivery out sound prints w0 w1 p0 p1 _ = Prim.⊥
 
 -- how the reading of the netlist may end without a text
-abbrev pub IsReadEnd : List ℕ → Bool → List ℕ → (before now : ℕ) → Ended → Type 0
-IsReadEnd net told text before now (ReadFault file) = (file ≡ net) × Rose before now
-IsReadEnd net told text before now Memory = Unit {0}
-IsReadEnd net told text before now (Refused (TooLong file)) = (file ≡ net) × (IsTrue told → length_limit < length text)
-IsReadEnd net told text before now _ = Prim.⊥
+abbrev pub IsReadEnd : List ℕ → (tells sound : Bool) → Option (List ℕ) → (before now : ℕ) → Ended → Type 0
+IsReadEnd net tells sound held before now (ReadFault file) = (file ≡ net) × ReadFails sound held before now
+IsReadEnd net tells sound held before now Memory = Unit {0}
+IsReadEnd net tells sound held before now (Refused (TooLong file)) = (file ≡ net) × Told tells held IsTooLong
+IsReadEnd net tells sound held before now _ = Prim.⊥
 
 -- names other than the two outputs hold what they held
 abbrev pub OthersKeep : List ℕ → Contents → Contents → Type 0

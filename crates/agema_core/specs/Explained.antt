@@ -3,7 +3,6 @@ use Rattle.std.specs.Prelude.{◌++◌, ℕ, List, codes}
 use Rattle.std.specs.Fmt.{decimal}
 use Rattle.agema_core.specs.declared.ended.Ended.{Ended}
 use Rattle.agema_core.specs.declared.ended.Ended.TheVariants.{Done, Usage, ReadFault, WriteFault, PrintFault, Memory, Refused}
-use Rattle.agema_core.specs.declared.ended.Refusal.{Refusal}
 use Rattle.agema_core.specs.declared.ended.Refusal.TheVariants.{TooLong, TooLarge, NotBuilt}
 
 -- `status`, the number, the answer's name, and each of its fields with its value

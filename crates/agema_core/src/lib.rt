@@ -11,4 +11,5 @@ mod tests;
 mod words;
 
 pub use ended::{Ended, Refusal};
+pub use masked::one_original;
 pub use program::run;

@@ -1,16 +1,27 @@
-ghost use Rattle.std.specs.Prelude.{◌≡◌, ◌≤◌, IfOk, string_bytes};
+ghost use Rattle.std.specs.Prelude.{◌≡◌, ◌≤◌, ℕ, List, IfOk, string_bytes};
+ghost use Rattle.agm_net.specs.Plain.{PlainNet};
 ghost use Rattle.agm_net.specs.View.{plain_of};
 ghost use Rattle.agm_net.specs.Simple.{IsSimple};
+ghost use Rattle.small_net.specs.Texts.{StatesFirst};
 ghost use Rattle.agema_core.specs.Masks.{MasksNet};
 ghost use Rattle.agema_core.specs.Masking.{IsMasking, IsMaskingOf};
 
 use crate::line::mask_line;
 use crate::size::{exceeds, simple_operators};
 use agm_bits::{Memory, Name};
+use agm_net::Mark;
 use masked_writer::report_text;
 use share_wiring::mask_simple;
 use small_net::{Original, first_is_simple, read_first, write_net};
+use small_text::one_small;
 use std::alloc::Global;
+
+/// A law: the bytes of a netlist of the first form determine the original, and its marks.
+pub fn one_original()
+    ensures { (text : List ℕ) (m n : PlainNet) (marks others : List Mark) → StatesFirst text m marks → StatesFirst text n others → (m ≡ n) × (marks ≡ others) }
+{
+    one_small();
+}
 
 /// What `mask` leaves: the masked netlist, the report, and the printed line.
 #[derive(Debug, Drop)]

@@ -1,12 +1,12 @@
 ghost use Rattle.std.specs.Prelude.{◌≡◌, ◌≢◌, ◌⊎◌, ◌≤◌, ◌++◌, ℕ, List, IsTrue, Some, None, Ok, Err, OnOk, OnErr, IfErr, IfOk, length, map, string_bytes, ◌↔◌, codes};
-ghost use Rattle.agm_shelf.specs.Shelf.{AllStay, OthersStay, Continues, IsFrontOrOld, TakesFront, text_of};
+ghost use Rattle.agm_shelf.specs.Shelf.{AllStay, OthersStay, Continues, IsFrontOrOld, TakesFront};
 ghost use Rattle.agema_core.specs.Words.{Mask, IsMask, IsOrder};
 ghost use Rattle.agema_core.specs.Command.{mask_of};
 ghost use Rattle.agema_core.specs.Masks.{report_name, length_limit};
-ghost use Rattle.agema_core.specs.Answer.{HasCause, IsBuilt, IsWriteEnd, IsWritesEnd, IsReadEnd, IsPrintEnd, IsDelivery, Leaves, LeftWhole, LeftPart, HasLeft, LeavesAll, OthersKeep, IsUntouched, counts};
+ghost use Rattle.agema_core.specs.Answer.{HasCause, IsBuilt, IsWriteEnd, IsWritesEnd, IsReadEnd, IsPrintEnd, IsDelivery, Leaves, LeftWhole, LeftPart, HasLeft, LeavesAll, OthersKeep, IsUntouched, IsComplete, counts, found};
 
 use crate::ended::{Ended, Refusal};
-use crate::masked::{Masking, Texts, masked_texts};
+use crate::masked::{Masking, Texts, masked_texts, one_original};
 use crate::words::{Command, read_command};
 use agm_bits::{Memory, Name};
 use agm_shelf::{PutEnd, ReadEnd, Shelf, Sink, write_whole};
@@ -67,7 +67,7 @@ fn write_file<H: Shelf>(alloc: Global, shelf: &mut H, name: &str, text: &[u8]) -
     ensures pending { H.pending shelf.new ≡ None }
     ensures ok { OnOk result (IsTrue (H.tells shelf.old) → H.holds shelf.new name.now ≡ Some text.now) }
     ensures front { OnErr result (IsTrue (H.tells shelf.old) → IsFrontOrOld text.now (H.holds shelf.old name.now) (H.holds shelf.new name.now)) }
-    ensures err { IfErr result (IsWriteEnd name.now (H.write_faults shelf.old) (H.write_faults shelf.new)) }
+    ensures err { IfErr result (IsWriteEnd name.now (H.sound shelf.old) (H.write_faults shelf.old) (H.write_faults shelf.new)) }
     ensures others { OthersStay name.now (H.holds shelf.old) (H.holds shelf.new) }
     ensures goes_on { Continues H.tells H.sound H.read_faults H.write_faults shelf.old shelf.new }
 {
@@ -89,7 +89,7 @@ fn write_files<H: Shelf>(
     ensures pending { H.pending shelf.new ≡ None }
     ensures whole { OnOk result (IsTrue (H.tells shelf.old) → LeftWhole out.now texts.now.net (string_bytes texts.now.report) (H.holds shelf.new)) }
     ensures part { OnErr result (IsTrue (H.tells shelf.old) → LeftPart out.now texts.now.net (string_bytes texts.now.report) (H.holds shelf.old) (H.holds shelf.new)) }
-    ensures err { IfErr result (IsWritesEnd out.now (H.write_faults shelf.old) (H.write_faults shelf.new)) }
+    ensures err { IfErr result (IsWritesEnd out.now (H.sound shelf.old) (H.write_faults shelf.old) (H.write_faults shelf.new)) }
     ensures others { OthersKeep out.now (H.holds shelf.old) (H.holds shelf.new) }
     ensures goes_on { Continues H.tells H.sound H.read_faults H.write_faults shelf.old shelf.new }
 {
@@ -105,7 +105,7 @@ fn write_files<H: Shelf>(
 fn print_line<K: Sink>(sink: &mut K, line: &str) -> Ended
     ensures done { result ≡ Ended.Done → IsTrue (K.tells sink.old) → K.taken sink.new ≡ K.taken sink.old ++ line.now }
     ensures front { result ≢ Ended.Done → IsTrue (K.tells sink.old) → TakesFront line.now (K.taken sink.old) (K.taken sink.new) }
-    ensures end { IsPrintEnd (K.faults sink.old) (K.faults sink.new) result }
+    ensures end { IsPrintEnd (K.sound sink.old) (K.faults sink.old) (K.faults sink.new) result }
 {
     match sink.put(line.as_bytes()) {
         Ok(()) => Ended::Done,
@@ -120,7 +120,7 @@ fn read_netlist<H: Shelf>(alloc: Global, shelf: &mut H, net: &str) -> Result<Vec
     ensures pending { H.pending shelf.new ≡ None }
     ensures ok { IfOk result (λ v. IsTrue (H.tells shelf.old) → H.holds shelf.old net.now ≡ Some v.items) }
     ensures within { IfOk result (λ v. length v.items ≤ length_limit) }
-    ensures err { IfErr result (IsReadEnd net.now (H.tells shelf.old) (text_of (H.holds shelf.old net.now)) (H.read_faults shelf.old) (H.read_faults shelf.new)) }
+    ensures err { IfErr result (IsReadEnd net.now (H.tells shelf.old) (H.sound shelf.old) (H.holds shelf.old net.now) (H.read_faults shelf.old) (H.read_faults shelf.new)) }
     ensures untouched { IfErr result IsUntouched }
     ensures same { AllStay (H.holds shelf.old) (H.holds shelf.new) }
     ensures goes_on { Continues H.tells H.sound H.read_faults H.write_faults shelf.old shelf.new }
@@ -144,7 +144,7 @@ fn deliver<H: Shelf, K: Sink>(
     requires { H.pending shelf.old ≡ None }
     ensures pending { H.pending shelf.new ≡ None }
     ensures left { Leaves out.now texts.now.net (string_bytes texts.now.report) (string_bytes texts.now.line) (H.tells shelf.old) (H.holds shelf.old) (H.holds shelf.new) (K.tells sink.old) (K.taken sink.old) (K.taken sink.new) result }
-    ensures end { IsDelivery out.now (H.write_faults shelf.old) (H.write_faults shelf.new) (K.faults sink.old) (K.faults sink.new) result }
+    ensures end { IsDelivery out.now (H.sound shelf.old) (K.sound sink.old) (H.write_faults shelf.old) (H.write_faults shelf.new) (K.faults sink.old) (K.faults sink.new) result }
     ensures others { OthersKeep out.now (H.holds shelf.old) (H.holds shelf.new) }
     ensures goes_on { Continues H.tells H.sound H.read_faults H.write_faults shelf.old shelf.new }
 {
@@ -165,7 +165,7 @@ fn mask<H: Shelf, K: Sink>(
     requires order { IsOrder command.now.order }
     ensures pending { H.pending shelf.new ≡ None }
     ensures left { HasLeft (mask_of command.now) (H.tells shelf.old) (H.holds shelf.old) (H.holds shelf.new) (K.tells sink.old) (K.taken sink.old) (K.taken sink.new) result }
-    ensures cause { HasCause (mask_of command.now) (H.tells shelf.old) (text_of (H.holds shelf.old command.now.net.now)) (counts (H.read_faults shelf.old) (H.write_faults shelf.old) (K.faults sink.old)) (counts (H.read_faults shelf.new) (H.write_faults shelf.new) (K.faults sink.new)) result }
+    ensures cause { HasCause (mask_of command.now) (found (H.tells shelf.old) (H.sound shelf.old) (K.sound sink.old) (H.holds shelf.old command.now.net.now)) (counts (H.read_faults shelf.old) (H.write_faults shelf.old) (K.faults sink.old)) (counts (H.read_faults shelf.new) (H.write_faults shelf.new) (K.faults sink.new)) result }
     ensures others { OthersKeep command.now.out.now (H.holds shelf.old) (H.holds shelf.new) }
 {
     if !is_built(command) {
@@ -191,9 +191,11 @@ pub fn run<H: Shelf, K: Sink>(alloc: Global, words: &[String], shelf: &mut H, ou
     ensures usage { (result ≡ Ended.Usage) ↔ ((m : Mask) → IsMask (map string_bytes words.now) m → ⊥) }
     ensures refused { result ≡ Ended.Usage → LeavesAll (H.holds shelf.old) (H.holds shelf.new) (K.taken out.old) (K.taken out.new) }
     ensures left { (m : Mask) → IsMask (map string_bytes words.now) m → HasLeft m (H.tells shelf.old) (H.holds shelf.old) (H.holds shelf.new) (K.tells out.old) (K.taken out.old) (K.taken out.new) result }
-    ensures cause { (m : Mask) → IsMask (map string_bytes words.now) m → HasCause m (H.tells shelf.old) (text_of (H.holds shelf.old m.net)) (counts (H.read_faults shelf.old) (H.write_faults shelf.old) (K.faults out.old)) (counts (H.read_faults shelf.new) (H.write_faults shelf.new) (K.faults out.new)) result }
+    ensures cause { (m : Mask) → IsMask (map string_bytes words.now) m → HasCause m (found (H.tells shelf.old) (H.sound shelf.old) (K.sound out.old) (H.holds shelf.old m.net)) (counts (H.read_faults shelf.old) (H.write_faults shelf.old) (K.faults out.old)) (counts (H.read_faults shelf.new) (H.write_faults shelf.new) (K.faults out.new)) result }
+    ensures complete { (m : Mask) → IsMask (map string_bytes words.now) m → IsComplete m (found (H.tells shelf.old) (H.sound shelf.old) (K.sound out.old) (H.holds shelf.old m.net)) (counts (H.read_faults shelf.old) (H.write_faults shelf.old) (K.faults out.old)) (counts (H.read_faults shelf.new) (H.write_faults shelf.new) (K.faults out.new)) result }
     ensures others { (m : Mask) → IsMask (map string_bytes words.now) m → OthersKeep m.out (H.holds shelf.old) (H.holds shelf.new) }
 {
+    one_original();
     match read_command(words) {
         None => Ended::Usage,
         Some(command) => mask(alloc, &command, shelf, out),

@@ -1,5 +1,6 @@
 //! Tests of the commands, over files and outputs in memory, and of masked nets beside their originals.
 
+mod complete;
 mod evaluator;
 mod explained;
 mod faults;

@@ -7,5 +7,5 @@ pub returns-in-Ok-clause-left : goal.returns-in-Ok-clause-left
 returns-in-Ok-clause-left g c =
     let L : List ℕ → Type 0 = λ line. Leaves c.args.out.now c.args.texts.now.net (string_bytes c.args.texts.now.report) line (g.H.Shelf.tells c.args.shelf.now) (g.H.Shelf.holds c.args.shelf.now) (g.H.Shelf.holds c.write_files.new.shelf) (g.K.Sink.tells c.args.sink.now) (g.K.Sink.taken c.args.sink.now) (g.K.Sink.taken c.print_line.new.sink) c.print_line.result in
     subst L c.as_str.ensures.value
-    (printed c.args.out.now c.args.texts.now.net (string_bytes c.args.texts.now.report) c.as_str.result.now (g.H.Shelf.tells c.args.shelf.now) (g.H.Shelf.holds c.args.shelf.now) (g.H.Shelf.holds c.write_files.new.shelf) (g.K.Sink.tells c.args.sink.now) (g.K.Sink.taken c.args.sink.now) (g.K.Sink.taken c.print_line.new.sink) (g.K.Sink.faults c.args.sink.now) (g.K.Sink.faults c.print_line.new.sink) c.print_line.result
+    (printed c.args.out.now c.args.texts.now.net (string_bytes c.args.texts.now.report) c.as_str.result.now (g.H.Shelf.tells c.args.shelf.now) (g.H.Shelf.holds c.args.shelf.now) (g.H.Shelf.holds c.write_files.new.shelf) (g.K.Sink.tells c.args.sink.now) (g.K.Sink.taken c.args.sink.now) (g.K.Sink.taken c.print_line.new.sink) (g.K.Sink.sound c.args.sink.now) (g.K.Sink.faults c.args.sink.now) (g.K.Sink.faults c.print_line.new.sink) c.print_line.result
     c.print_line.ensures.end c.in-Ok.ensures.whole c.print_line.ensures.done c.print_line.ensures.front)

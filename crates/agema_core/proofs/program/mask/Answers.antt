@@ -20,5 +20,5 @@ returns-in-Ok-Made-clause-left g c =
     let read : IsTrue told → text_of (old c.args.command.now.net.now) ≡ c.as_slice.result.now = λ t. ap text_of (c.in-Ok.ensures.ok t) ∙ sym c.as_slice.ensures.value in
     let masks = rw c.in-Ok-Made.field-0-is at c.in-Ok-Made.ensures in
     delivered (mask_of c.args.command.now) texts.net (string_bytes texts.report) (string_bytes texts.line) c.as_slice.result.now told old mid new heard before now
-    (g.H.Shelf.write_faults c.read_netlist.new.shelf) (g.H.Shelf.write_faults c.deliver.new.shelf) (g.K.Sink.faults c.args.sink.now) (g.K.Sink.faults c.deliver.new.sink) c.deliver.result
+    (g.H.Shelf.sound c.read_netlist.new.shelf) (g.K.Sink.sound c.args.sink.now) (g.H.Shelf.write_faults c.read_netlist.new.shelf) (g.H.Shelf.write_faults c.deliver.new.shelf) (g.K.Sink.faults c.args.sink.now) (g.K.Sink.faults c.deliver.new.sink) c.deliver.result
     c.in-Ok.ensures.same read masks c.deliver.ensures.end leaves

@@ -1,10 +1,9 @@
 use Rattle.std.proofs.Common.{◌≡◌, Global, map, string_bytes, refl, sym, subst}
 use Rattle.agema_core.specs.Words.{Mask}
 use Rattle.agema_core.specs.Command.{mask_of}
-use Rattle.agema_core.specs.Answer.{HasCause, HasLeft, OthersKeep, counts}
-use Rattle.agm_shelf.specs.Shelf.{text_of}
+use Rattle.agema_core.specs.Answer.{HasCause, HasLeft, Found, IsComplete, OthersKeep, counts, found}
 use Rattle.agema_core.proofs.Commands.{command_read, read_command}
-use Rattle.agema_core.proofs.Ends.{not_usage}
+use Rattle.agema_core.proofs.Ends.{not_usage, completes}
 use Rattle.agema_core.proofs.program.run.Goals as goal
 
 pub mask-requires-clause-order : goal.mask-requires-clause-order
@@ -18,7 +17,7 @@ returns-in-None-clause-cause g c = λ m is. (let read = command_read (map (strin
 
 pub returns-in-Some-clause-usage : goal.returns-in-Some-clause-usage
 returns-in-Some-clause-usage g c = (
-  (λ e m is. not_usage _ _ _ _ _ _ c.mask.ensures.cause e),
+  (λ e m is. not_usage _ _ _ _ _ c.mask.ensures.cause e),
   (λ none. absurd (none (mask_of c.in-Some.command) (read_command (map (string_bytes {Z = Global}) c.args.words.now) (mask_of c.in-Some.command) (sym c.in-Some.ensures)))),
 )
 
@@ -33,7 +32,7 @@ pub returns-in-Some-clause-cause : goal.returns-in-Some-clause-cause
 returns-in-Some-clause-cause g c = λ m is.
     (let read = command_read (map (string_bytes {Z = Global}) c.args.words.now) m is in let some = c.in-Some.ensures in
     let same : mask_of c.in-Some.command ≡ m = cc in
-    let P : Mask → Type 0 = λ m. HasCause m (g.H.Shelf.tells c.args.shelf.now) (text_of (g.H.Shelf.holds c.args.shelf.now m.net)) (counts (g.H.Shelf.read_faults c.args.shelf.now) (g.H.Shelf.write_faults c.args.shelf.now) (g.K.Sink.faults c.args.out.now)) (counts (g.H.Shelf.read_faults c.mask.new.shelf) (g.H.Shelf.write_faults c.mask.new.shelf) (g.K.Sink.faults c.mask.new.sink)) c.mask.result in
+    let P : Mask → Type 0 = λ m. HasCause m (found (g.H.Shelf.tells c.args.shelf.now) (g.H.Shelf.sound c.args.shelf.now) (g.K.Sink.sound c.args.out.now) (g.H.Shelf.holds c.args.shelf.now m.net)) (counts (g.H.Shelf.read_faults c.args.shelf.now) (g.H.Shelf.write_faults c.args.shelf.now) (g.K.Sink.faults c.args.out.now)) (counts (g.H.Shelf.read_faults c.mask.new.shelf) (g.H.Shelf.write_faults c.mask.new.shelf) (g.K.Sink.faults c.mask.new.sink)) c.mask.result in
     subst P same c.mask.ensures.cause)
 
 pub returns-in-Some-clause-others : goal.returns-in-Some-clause-others
@@ -42,3 +41,17 @@ returns-in-Some-clause-others g c = λ m is.
     let same : mask_of c.in-Some.command ≡ m = cc in
     let P : Mask → Type 0 = λ m. OthersKeep m.out (g.H.Shelf.holds c.args.shelf.now) (g.H.Shelf.holds c.mask.new.shelf) in
     subst P same c.mask.ensures.others)
+
+pub returns-in-None-clause-complete : goal.returns-in-None-clause-complete
+returns-in-None-clause-complete g c = λ m is. (let read = command_read (map (string_bytes {Z = Global}) c.args.words.now) m is in let none = c.in-None.ensures in cc)
+
+pub returns-in-Some-clause-complete : goal.returns-in-Some-clause-complete
+returns-in-Some-clause-complete g c = λ m is.
+    (let read = command_read (map (string_bytes {Z = Global}) c.args.words.now) m is in let some = c.in-Some.ensures in
+    let same : mask_of c.in-Some.command ≡ m = cc in
+    let before = counts (g.H.Shelf.read_faults c.args.shelf.now) (g.H.Shelf.write_faults c.args.shelf.now) (g.K.Sink.faults c.args.out.now) in
+    let now = counts (g.H.Shelf.read_faults c.mask.new.shelf) (g.H.Shelf.write_faults c.mask.new.shelf) (g.K.Sink.faults c.mask.new.sink) in
+    let seen : Mask → Found = λ m. found (g.H.Shelf.tells c.args.shelf.now) (g.H.Shelf.sound c.args.shelf.now) (g.K.Sink.sound c.args.out.now) (g.H.Shelf.holds c.args.shelf.now m.net) in
+    let P : Mask → Type 0 = λ m. IsComplete m (seen m) before now c.mask.result in
+    let first = mask_of c.in-Some.command in
+    subst P same (completes first (seen first) before now c.mask.result c.one_original.ensures (g.met.H.Shelf.sound_tells c.args.shelf.now) c.mask.ensures.cause))
