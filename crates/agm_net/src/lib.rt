@@ -9,8 +9,6 @@ mod plain;
 mod port;
 mod refusals;
 mod roles;
-#[cfg(test)]
-mod tests;
 
 pub use expr::{Equation, Expr, Register, is_within, not_of, xor_of};
 pub use mark::{Mark, Marks, Role};

@@ -15,6 +15,3 @@ pub use memory_sink::MemorySink;
 pub use output::StdSink;
 pub use shelf::{PutEnd, ReadEnd, Shelf, Sink};
 pub use whole::write_whole;
-
-#[cfg(test)]
-mod tests;

@@ -18,7 +18,7 @@ use Rattle.small_text.specs.declared.small.Item.TheVariants.{Assign, Not, Xor, A
 use Rattle.small_text.specs.declared.small.Small.{Small}
 use Rattle.small_text.specs.Grammar.{select_tokens, bit_tokens, source_tokens, more_names, names_tokens, mark_tokens, way_token, range_tokens, declaration_tokens, pin_tokens, item_tokens, small_tokens, IsIndex, IsRange, IsBit, IsSource, IsDeclaration, IsItem, IsSmall}
 use Rattle.small_text.specs.Reading.{Read, ◌>>=◌, begins, begins_key, index_at, select_at, bit_at, bit_source_at, source_at, many_at, next_name_at, names_at, mark_at, optional_mark_at, way_at, range_at, optional_range_at, port_at, wires_at, declaration_at, begins_declaration, declarations_at, pin_at, next_pin_at, end_at, two_pins_at, three_pins_at, not_at, xor_at, and_at, register_at, instance_at, assign_at, item_at, goes_on, items_at, head_at, small_at}
-use Rattle.small_text.proofs.Tokens.{hit, word_again, number_again}
+use Rattle.small_text.proofs.SingleTokens.{hit, word_again, number_again}
 use Rattle.small_text.proofs.Many.{stop_many}
 use Rattle.small_text.proofs.Found.{index_a, bit_b, bit_source_a, many_b, many_a, next_tokens, IsAny, names_b, HasSome, IsMark, range_a, range_c, port_a, port_b, port_c, wires_a, pin_b, pin_d, two_b, two_c, three_b, three_c, three_d, not_a, xor_a, and_a, register_a, assign_a, assign_c, Head, head_d, small_a, small_b, small_c}
 use Rattle.small_text.proofs.Spliced.{port_spliced, wires_spliced, pin_spliced, two_pins_spliced, three_pins_spliced, assign_spliced}

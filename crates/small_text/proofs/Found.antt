@@ -19,7 +19,7 @@ use Rattle.small_text.specs.declared.small.Item.TheVariants.{Assign, Not, Xor, A
 use Rattle.small_text.specs.declared.small.Small.{Small}
 use Rattle.small_text.specs.Grammar.{select_tokens, bit_tokens, source_tokens, names_tokens, mark_tokens, way_token, range_tokens, declaration_tokens, pin_tokens, item_tokens, small_tokens, IsIndex, IsRange, IsBit, IsSource, IsDeclaration, IsItem, IsSmall}
 use Rattle.small_text.specs.Reading.{Read, ◌>>=◌, begins, begins_key, symbol_at, key_at, ident_at, word_at, number_at, close_at, index_at, select_at, bit_at, bit_source_at, source_at, many_at, next_name_at, more_names_at, names_at, kind_of, with_rest, kind_at, mark_at, optional_mark_at, way_of, way_at, range_at, optional_range_at, port_at, wires_at, declaration_at, begins_declaration, declarations_at, pin_at, next_pin_at, end_at, two_pins_at, three_pins_at, not_at, xor_at, and_at, register_at, cell_at, instance_at, assign_at, item_at, goes_on, items_at, head_at, ended, small_at}
-use Rattle.small_text.proofs.Tokens.{hit, chosen, bind_some, got, same_bytes, begins_is, begins_key_is, symbol_is, key_is, ident_is, word_is, number_is, close_is}
+use Rattle.small_text.proofs.SingleTokens.{hit, chosen, bind_some, got, same_bytes, begins_is, begins_key_is, symbol_is, key_is, ident_is, word_is, number_is, close_is}
 use Rattle.small_text.proofs.Spliced.{port_spliced, wires_spliced, pin_spliced, two_pins_spliced, three_pins_spliced, assign_spliced}
 
 -- a reader is right where what it reads stands there, and is within the limits

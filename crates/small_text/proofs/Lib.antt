@@ -13,7 +13,7 @@ pub mod Printed
 pub mod ReadText
 pub mod Row
 pub mod Runs
+pub mod SingleTokens
 pub mod Spliced
-pub mod Tokens
 pub mod Well
 pub mod Writable

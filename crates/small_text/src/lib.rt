@@ -16,7 +16,7 @@ mod terminals;
 mod token;
 mod write;
 
-pub use cut::{laid_out, one_list};
+pub use cut::{laid_out, one_list, tokens};
 pub use read::{one_small, read_is_writable, read_small};
 pub use small::{Bit, Declaration, Item, Small, Source};
 pub use token::Token;

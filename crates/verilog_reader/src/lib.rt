@@ -12,8 +12,6 @@ mod ports;
 mod read;
 mod stop;
 mod terminals;
-#[cfg(test)]
-mod tests;
 
 pub use design::{Attribute, Connection, Design, DesignFault, Form, Item, Module, Value};
 pub use read::{one_design, read_design};

@@ -1,4 +1,6 @@
-use crate::{
+//! Shelves and sinks, in memory and over the system.
+
+use agm_shelf::{
     FilesShelf, MemoryShelf, MemorySink, PutEnd, ReadEnd, Shelf, Sink, StdSink, write_whole,
 };
 use std::cell::Cell;

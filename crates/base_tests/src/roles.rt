@@ -1,7 +1,7 @@
 //! Roles of ports, and plain nets: one row for each rule.
 
-use crate::{Equation, Expr, Net, Port, Range, Register, Role, Way, not_of, xor_of};
 use agm_bits::{List, Memory, Name};
+use agm_net::{Equation, Expr, Net, Port, Range, Register, Role, Way, not_of, xor_of};
 use std::alloc::Global;
 use std::test::Fail;
 

@@ -1,8 +1,12 @@
-use crate::{Attribute, Connection, Design, DesignFault, Form, Item, Module, Value, read_design};
+//! Designs of structural Verilog: one row for each rule.
+
 use agm_bits::{List, Name};
 use agm_net::{Range, Way};
 use std::alloc::{AllocError, Global};
 use std::test::Fail;
+use verilog_reader::{
+    Attribute, Connection, Design, DesignFault, Form, Item, Module, Value, read_design,
+};
 
 /// A rule, a text that shows it, and the design that a person reads in it.
 const READ: [(&str, &str, &str); 43] = [

@@ -1,0 +1,17 @@
+//! Tests of the crates that read and write texts.
+#![tactic(auto)]
+
+#[cfg(test)]
+mod cell_libraries;
+#[cfg(test)]
+mod functions;
+#[cfg(test)]
+mod liberty_tokens;
+#[cfg(test)]
+mod small_nets;
+#[cfg(test)]
+mod small_texts;
+#[cfg(test)]
+mod small_tokens;
+#[cfg(test)]
+mod verilog_designs;
