@@ -3,4 +3,3 @@ pub mod Made
 pub mod Sums
 pub mod Rows
 pub mod Sizes
-pub mod Example

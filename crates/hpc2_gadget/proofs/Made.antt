@@ -1,7 +1,6 @@
 -- One part more, and steps in a row.
-use Rattle.std.proofs.Common.{◌≡◌, ◌<◌, ◌≤◌, ◌+◌, ◌-◌, ◌*◌, ◌/◌, ◌^◌, ◌++◌, ℕ, zero, suc, Bool, List, [], ◌∷◌, length, take, drop, slice_set, IsTrue, refl, sym, ap, subst, inl, inr, ◌∙◌, arith, add-zero, length-append, append_assoc}
-use Rattle.std.proofs.Math.Seq.{take-append_seam}
-use Rattle.std.proofs.lemmas.List.{take-append-drop, get_or-set_other, get_or-set_same, length-set}
+use Rattle.std.proofs.Common.{◌≡◌, ◌<◌, ◌≤◌, ◌+◌, ◌-◌, ◌*◌, ◌/◌, ◌^◌, ◌++◌, ℕ, zero, suc, Bool, List, [], ◌∷◌, length, slice_set, IsTrue, refl, sym, ap, subst, inl, inr, ◌∙◌, arith, add-zero, length-append}
+use Rattle.std.proofs.lemmas.List.{get_or-set_other, get_or-set_same, length-set}
 use Rattle.std.proofs.lemmas.Bool.{cases_eq, cases_lt}
 use Rattle.std.proofs.lemmas.Nat.{div-mul-add}
 use Rattle.agm_net.specs.Label.{PartKind, part_name, part_text, IsOfShare}
@@ -11,11 +10,12 @@ use Rattle.share_wiring.specs.Built.{IsNewPart}
 use Rattle.share_wiring.specs.declared.gate.Source.{Source}
 use Rattle.share_wiring.specs.declared.gate.Wire.{Wire}
 use Rattle.share_wiring.proofs.Grown.{names_append}
-use Rattle.share_wiring.proofs.Runs.{name_back, extends_refl}
+use Rattle.share_wiring.proofs.Runs.{name_back, extends_refl, extends_trans}
 use Rattle.hpc2_gadget.specs.Kinds.{is_of_share}
 use Rattle.hpc2_gadget.specs.Order.{rank, IsIndex, Below}
 use Rattle.hpc2_gadget.specs.Grown.{Grown, Makes, Fills, triangle}
 use Rattle.hpc2_gadget.proofs.PartNames.{part_new, below_part, below_more, part_writable, part_of_share}
+use Rattle.share_wiring.specs.Cells.{AreCells, AddsCells}
 
 -- a part's name may be given
 pub new_part : (net : Wiring) (n g : ℕ) (kind : PartKind) (i j : ℕ) (name : List ℕ) → name ≡ part_name n g kind i j → (2 ≤ n) × (n ≤ 16) → g < 2 ^ 32 → g < net.gadgets → IsIndex n kind i j
@@ -26,8 +26,8 @@ new_part net n g kind i j name is size small begun index below =
     (record { new = part_new n g kind i j (names net.wires) index below; written = part_writable n g kind i j few small index; of_gadget = (g, part_text n kind i j, begun, refl) })
 
 pub part_grown : (old new : Wiring) (n g : ℕ) (kind : PartKind) (i j : ℕ) (name : List ℕ) (source : Source) → name ≡ part_name n g kind i j → (2 ≤ n) × (n ≤ 16) → IsIndex n kind i j
-    → Below n g (rank n kind i j) (names old.wires) → Extends old new → Stays old new → new.wires ≡ old.wires ++ (record { name = name; source = source }) ∷ [] → Grown n g (rank n kind i j + 1) 0 old new
-part_grown old new n g kind i j name source is size index below extends stays made =
+    → Below n g (rank n kind i j) (names old.wires) → Extends old new → Stays old new → AddsCells old new → new.wires ≡ old.wires ++ (record { name = name; source = source }) ∷ [] → Grown n g (rank n kind i j + 1) 0 old new
+part_grown old new n g kind i j name source is size index below extends stays cells made =
     let few : n < 2 ^ 32 = (let le = size.1 in omega arith) in
     let given = stays.given in
     let all : names new.wires ≡ names old.wires ++ part_name n g kind i j ∷ [] =
@@ -37,6 +37,7 @@ part_grown old new n g kind i j name source is size index below extends stays ma
       ports = stays.ports;
       gadgets = stays.gadgets;
       given = omega arith;
+      cells = cells;
       below = subst (Below n g (rank n kind i j + 1)) (sym all) (below_part n g kind i j (names old.wires) few index below);
     }
 
@@ -55,35 +56,15 @@ part_shared old new n g kind i j name source w is size small index made at share
       named = inr (λ one. (let no_one = one in omega arith), subst (IsOfShare n i) (sym named) (part_of_share n g kind i j small index shared));
     }
 
-pub grown : (old new : List Wire) → take (length old) new ≡ old → new ≡ old ++ drop (length old) new
-grown old new e = sym (take-append-drop (length old) new) ∙ ap (λ s. s ++ drop (length old) new) e
-
-pub extends_trans : (a b c : Wiring) → Extends a b → Extends b c → Extends a c
-extends_trans a b c e f =
-    let p = grown a.wires b.wires e.wires in
-    let q = grown b.wires c.wires f.wires in
-    let r : c.wires ≡ a.wires ++ (drop (length a.wires) b.wires ++ drop (length b.wires) c.wires) = q ∙ (ap (λ s. s ++ drop (length b.wires) c.wires) p ∙ append_assoc a.wires (drop (length a.wires) b.wires) (drop (length b.wires) c.wires)) in
-    let g = e.gadgets in
-    let h = f.gadgets in
-    let i = e.count in
-    let j = f.count in
-    record {
-      wires = ap (λ s. take (length a.wires) s) r ∙ take-append_seam a.wires (drop (length a.wires) b.wires ++ drop (length b.wires) c.wires);
-      count = omega arith;
-      gadgets = omega arith;
-      shares = λ n i w s. f.shares n i w (e.shares n i w s);
-      publics = λ w s. f.publics w (e.publics w s);
-    }
-
 -- steps in a row
 pub grown_trans : (n g r s k l : ℕ) (a b c : Wiring) → Grown n g r k a b → Grown n g s l b c → Grown n g s (k + l) a c
 grown_trans n g r s k l a b c p q =
     let one = p.given in
     let two = q.given in
-    record { extends = extends_trans a b c p.extends q.extends; ports = q.ports ∙ p.ports; gadgets = q.gadgets ∙ p.gadgets; given = omega arith; below = q.below }
+    record { extends = extends_trans a b c p.extends q.extends; ports = q.ports ∙ p.ports; gadgets = q.gadgets ∙ p.gadgets; given = omega arith; cells = λ h. q.cells (p.cells h); below = q.below }
 
 pub grown_more : (n g r s k : ℕ) (a b : Wiring) → r ≤ s → Grown n g r k a b → Grown n g s k a b
-grown_more n g r s k a b le p = record { extends = p.extends; ports = p.ports; gadgets = p.gadgets; given = p.given; below = below_more n g r s (names b.wires) le p.below }
+grown_more n g r s k a b le p = record { extends = p.extends; ports = p.ports; gadgets = p.gadgets; given = p.given; cells = p.cells; below = below_more n g r s (names b.wires) le p.below }
 
 -- a random bit more
 pub random_grown : (n g r : ℕ) (old new : Wiring) → Extends old new → new ≡ record old { given = old.given + 1 } → Below n g r (names old.wires) → Grown n g r 1 old new
@@ -93,12 +74,13 @@ random_grown n g r old new extends is below =
       ports = ap (λ (w : Wiring). w.ports) is;
       gadgets = ap (λ (w : Wiring). w.gadgets) is;
       given = ap (λ (w : Wiring). w.given) is;
+      cells = λ h. subst (λ (w : Wiring). AreCells w.wires) (sym is) h;
       below = subst (λ (w : Wiring). Below n g r (names w.wires)) (sym is) below;
     }
 
 -- nothing yet
 pub grown_none : (n g r : ℕ) (net : Wiring) → Below n g r (names net.wires) → Grown n g r 0 net net
-grown_none n g r net below = let none : net.given ≡ net.given + 0 = omega arith in record { extends = extends_refl net; ports = refl; gadgets = refl; given = none; below = below }
+grown_none n g r net below = let none : net.given ≡ net.given + 0 = omega arith in record { extends = extends_refl net; ports = refl; gadgets = refl; given = none; cells = λ h. h; below = below }
 
 -- no share yet
 pub fills_none : (n : ℕ) (shares : List ℕ) (net : Wiring) (fact : ℕ → (ℕ → ℕ → Bool) → ℕ → ℕ → Type 0) → length shares ≡ n → Fills net net n 0 shares fact

@@ -3,13 +3,15 @@ use Rattle.std.specs.Prelude.{◌≡◌, ◌<◌, ◌+◌, ℕ, zero, suc, Bool,
 use Rattle.share_wiring.specs.Wiring.{Wiring, IsSharing, MayBeShare, names, share}
 use Rattle.share_wiring.specs.Adds.{Extends, AddsFact}
 use Rattle.hpc2_gadget.specs.Order.{Below}
+use Rattle.share_wiring.specs.Cells.{AddsCells}
 
--- The earlier wires stay, so many random bits were given, and the parts of gadget g have numbers below r.
+-- The earlier wires stay, the small form can state the new ones, so many random bits were given, and the parts of gadget g have numbers below r.
 pub record Grown (n g r bits : ℕ) (old new : Wiring) : Type 0 where
   pub extends : Extends old new
   pub ports : new.ports ≡ old.ports
   pub gadgets : new.gadgets ≡ old.gadgets
   pub given : new.given ≡ old.given + bits
+  pub cells : AddsCells old new
   pub below : Below n g r (names new.wires)
 
 -- n shares are wires of the new net, and its traces keep a fact

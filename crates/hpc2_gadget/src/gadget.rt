@@ -7,6 +7,7 @@ ghost use Rattle.hpc2_gadget.specs.Kinds.{kind_of, is_of_share};
 ghost use Rattle.hpc2_gadget.specs.Order.{rank, IsIndex, Below};
 ghost use Rattle.hpc2_gadget.specs.Product.{SquareAt, SameAt, InverseAt, RowAt, RowsAt, Multiplies};
 ghost use Rattle.hpc2_gadget.specs.Grown.{Grown, Makes, Fills, triangle};
+ghost use Rattle.share_wiring.specs.Cells.{AddsCells};
 
 use crate::kind::Kind;
 use crate::names::Place;
@@ -205,6 +206,7 @@ pub fn multiply<const S: usize>(
     ensures ports { OnOk result (builder.new.ports ≡ builder.old.ports) }
     ensures gadgets { OnOk result (builder.new.gadgets ≡ builder.old.gadgets + 1) }
     ensures given { OnOk result (builder.new.given ≡ builder.old.given + S * (S - 1) / 2) }
+    ensures cells { OnOk result (AddsCells builder.old builder.new) }
     ensures shares { IfOk result (λ c. IsSharing builder.new.wires S c.shares) }
     ensures product { IfOk result (λ c. AddsFact builder.old builder.new (λ cycles bits. Multiplies S cycles bits a.now.shares b.now.shares c.shares)) }
 {

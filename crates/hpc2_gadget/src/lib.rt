@@ -5,7 +5,5 @@ mod gadget;
 mod kind;
 mod names;
 mod parts;
-#[cfg(test)]
-mod tests;
 
 pub use gadget::multiply;

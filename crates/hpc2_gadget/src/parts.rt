@@ -3,6 +3,7 @@
 ghost use Rattle.std.specs.Prelude.{◌≡◌, ◌≢◌, ◌<◌, ◌≤◌, ◌+◌, ◌-◌, ◌*◌, length, ℕ, IfOk, OnOk, IsTrue};
 ghost use Rattle.agm_net.specs.Formula.{value, xor};
 ghost use Rattle.agm_net.specs.Label.{part_name as part_name_of, k_rr, k_r, k_vx, k_s};
+ghost use Rattle.agm_net.specs.Simple.{IsCell};
 ghost use Rattle.share_wiring.specs.Gates.{gate_formula, gate_below};
 ghost use Rattle.share_wiring.specs.Wiring.{MayBeShare, names};
 ghost use Rattle.share_wiring.specs.Adds.{Extends, AddsFact, random_bits};
@@ -40,6 +41,7 @@ pub fn gate(
     requires index { IsIndex place.shares (kind_of kind) i j }
     requires below { Below place.shares place.gadget (rank place.shares (kind_of kind) i j) (names builder.old.wires) }
     requires fits { IsTrue (gate_below gate (length builder.old.wires)) }
+    requires cell { IsCell (gate_formula gate) }
     ensures grown { OnOk result (Grown place.shares place.gadget (rank place.shares (kind_of kind) i j + 1) 0 builder.old builder.new) }
     ensures within { IfOk result (λ w. w < length builder.new.wires) }
     ensures shared { IfOk result (λ w. IsTrue (is_of_share (kind_of kind)) → MayBeShare builder.new.wires place.shares i w) }
@@ -91,6 +93,7 @@ fn stored(
     requires next { rank place.shares (kind_of kinds.1) i j ≡ rank place.shares (kind_of kinds.0) i j + 1 }
     requires below { Below place.shares place.gadget (rank place.shares (kind_of kinds.0) i j) (names builder.old.wires) }
     requires fits { IsTrue (gate_below gate_of (length builder.old.wires)) }
+    requires cell { IsCell (gate_formula gate_of) }
     ensures grown { OnOk result (Grown place.shares place.gadget (rank place.shares (kind_of kinds.1) i j + 1) 0 builder.old builder.new) }
     ensures within { IfOk result (λ w. w < length builder.new.wires) }
     ensures shared { IfOk result (λ w. IsTrue (is_of_share (kind_of kinds.1)) → MayBeShare builder.new.wires place.shares i w) }
@@ -181,6 +184,7 @@ fn second_sum(
     requires index { (i < place.shares) × (j < place.shares) × (i ≢ j) }
     requires below { Below place.shares place.gadget (cell i j + (15 + turn i j * 2)) (names builder.old.wires) }
     requires fits { IsTrue (gate_below sum (length builder.old.wires)) }
+    requires cell { IsCell (gate_formula sum) }
     ensures grown { OnOk result (Grown place.shares place.gadget (cell i j + (16 + turn i j * 2)) 0 builder.old builder.new) }
     ensures shared { IfOk result (MayBeShare builder.new.wires place.shares i) }
     ensures value { IfOk result (λ w. AddsFact builder.old builder.new (λ cycles bits. (t : ℕ) → t < cycles → bits t w ≡ value (bits t) (gate_formula sum))) }

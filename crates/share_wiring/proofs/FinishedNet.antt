@@ -33,7 +33,7 @@ to_distinct [] h = tt
 to_distinct (x ∷ xs) h = (h.0, to_distinct xs h.1)
 
 -- what holds of each wire's equation holds of all equations, and back
-all_lines : (P : Line → Type 0) (wires : List Wire) (n : ℕ) → ((w : ℕ) → w < n → AllByRecursion P (line_at w (source_at wires w))) → AllByRecursion P (lines_below wires n)
+pub all_lines : (P : Line → Type 0) (wires : List Wire) (n : ℕ) → ((w : ℕ) → w < n → AllByRecursion P (line_at w (source_at wires w))) → AllByRecursion P (lines_below wires n)
 all_lines P wires zero h = tt
 all_lines P wires (suc n) h = all_joined P (lines_below wires n) (line_at n (source_at wires n)) (all_lines P wires n (λ w lt. h w (omega arith))) (h n (omega arith))
 
@@ -47,7 +47,7 @@ line_of_all P wires (suc n) w h lt =
     ]
 
 -- the same of registers
-all_stored : (P : Stored → Type 0) (wires : List Wire) (n : ℕ) → ((w : ℕ) → w < n → AllByRecursion P (stored_at w (source_at wires w))) → AllByRecursion P (stored_below wires n)
+pub all_stored : (P : Stored → Type 0) (wires : List Wire) (n : ℕ) → ((w : ℕ) → w < n → AllByRecursion P (stored_at w (source_at wires w))) → AllByRecursion P (stored_below wires n)
 all_stored P wires zero h = tt
 all_stored P wires (suc n) h = all_joined P (stored_below wires n) (stored_at n (source_at wires n)) (all_stored P wires n (λ w lt. h w (omega arith))) (h n (omega arith))
 

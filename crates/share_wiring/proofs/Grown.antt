@@ -9,7 +9,7 @@ use Rattle.agm_net.specs.declared.port.Port.{Port}
 use Rattle.share_wiring.specs.Gates.{gate_below}
 use Rattle.share_wiring.specs.Wiring.{Wiring, names, source_at}
 use Rattle.share_wiring.specs.Adds.{random_bits}
-use Rattle.share_wiring.specs.Built.{source_fits, AreDistinct, IsNew, LeavesFree, IsBegun, HasItsBits, uses, input_uses, clock_port, IsInnerName, IsInnerOrBit, IsAmong, bits_names, IsBuilt}
+use Rattle.share_wiring.specs.Built.{source_fits, AreDistinct, IsNew, LeavesFree, IsBegun, HasItsBits, uses, input_uses, clock_port, IsInnerName, IsInnerOrBit, IsAmong, IsMadePort, bits_names, IsBuilt}
 use Rattle.share_wiring.specs.declared.gate.Gate.{Gate}
 use Rattle.share_wiring.specs.declared.gate.Gate.TheVariants.{Zero, One, Same, Not, And, Or, Xor, Mux}
 use Rattle.share_wiring.specs.declared.gate.Source.{Source}
@@ -130,10 +130,10 @@ inner_still old new name more (inr bit) = inr (more name bit)
 -- The net with more wires, and with ports of its own.
 pub built_more : (net : Wiring) (more : List Wire) (ports : List Port) → IsBuilt net → Fit net more
     → ((x : List ℕ) → IsAmong (bits_names net.ports) x → IsAmong (bits_names ports) x) → AllByRecursion (IsInnerOrBit ports) (names more)
-    → take 1 ports ≡ clock_port ∷ [] → AreDistinct (map (λ p. p.name) ports) → AllByRecursion (HasItsBits (names (net.wires ++ more))) ports
+    → take 1 ports ≡ clock_port ∷ [] → AllByRecursion IsMadePort ports → AreDistinct (map (λ p. p.name) ports) → AllByRecursion (HasItsBits (names (net.wires ++ more))) ports
     → ((w : ℕ) → uses ports w ≤ 1) → ((w : ℕ) → uses (filter is_input ports) w ≡ input_uses (source_at (net.wires ++ more) w)) → net.given ≤ length (random_bits ports)
     → IsBuilt (record net { ports = ports; wires = net.wires ++ more })
-built_more net more ports built fit still own clocked differ named one inputs given =
+built_more net more ports built fit still own clocked made differ named one inputs given =
     let len = length-append net.wires more in
     let all = names_append net.wires more in
     let longer : (xs : List (List ℕ)) → AllByRecursion (LeavesFree (length net.wires)) xs → AllByRecursion (LeavesFree (length net.wires + length more)) xs =
@@ -148,6 +148,7 @@ built_more net more ports built fit still own clocked differ named one inputs gi
       named = rw all
           (all_joined (IsInnerOrBit ports) (names net.wires) (names more)
           (all_from (IsInnerOrBit net.ports) (IsInnerOrBit ports) (λ x h. inner_still net.ports ports x still h) (names net.wires) built.named) own);
+      ports_made = made;
       ports_differ = differ;
       bits_named = named;
       one_port = one;
@@ -160,6 +161,6 @@ built_more net more ports built fit still own clocked differ named one inputs gi
 pub built_wires : (net : Wiring) (more : List Wire) → IsBuilt net → Fit net more → AllByRecursion IsInnerName (names more) → AllByRecursion (λ wire. input_uses wire.source ≡ 0) more
     → IsBuilt (record net { wires = net.wires ++ more })
 built_wires net more built fit own inner =
-    built_more net more net.ports built fit (λ x h. h) (all_from IsInnerName (IsInnerOrBit net.ports) (λ x h. inl h) (names more) own) built.clocked built.ports_differ
+    built_more net more net.ports built fit (λ x h. h) (all_from IsInnerName (IsInnerOrBit net.ports) (λ x h. inl h) (names more) own) built.clocked built.ports_made built.ports_differ
     (rw (names_append net.wires more) (named_more (names net.wires) (names more) net.ports built.bits_named))
     built.one_port (λ w. built.inputs w ∙ sym (uses_more net.wires more w inner)) built.given

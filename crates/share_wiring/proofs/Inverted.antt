@@ -1,12 +1,11 @@
 -- What stays the same where one equation of a net is inverted.
-use Rattle.std.proofs.Common.{◌≡◌, ◌+◌, ◌==◌, ℕ, Bool, not, ◌&&◌, ◌||◌, cond, List, [], ◌∷◌, map, filter, flat_map, length, nat_lt, count_by, refl, sym, ap, ap₂, ◌∙◌, inl, inr}
+use Rattle.std.proofs.Common.{◌≡◌, ◌+◌, ◌==◌, ℕ, Bool, not, ◌&&◌, cond, List, [], ◌∷◌, map, filter, flat_map, length, nat_lt, count_by, refl, sym, ap, ap₂, ◌∙◌, inl, inr}
 use Rattle.std.specs.List.{list_all}
 use Rattle.std.proofs.lemmas.Bool.{and_parts, and_from, cases_Bool}
 use Rattle.std.proofs.lemmas.List.Sums.{sum_by-cons}
 use Rattle.agm_net.specs.Formula.{value, stands, reads_below}
 use Rattle.agm_net.specs.Plain.{Line, PlainNet, is_input}
 use Rattle.agm_net.specs.WellFormed.{WellFormed}
-use Rattle.agm_net.specs.Simple.{InOrder}
 use Rattle.share_wiring.specs.Inverted.{inverted_line, inverted_at}
 
 -- the value of an equation that may be inverted
@@ -14,7 +13,7 @@ pub inverted_value : (bit : ℕ → Bool) (u : ℕ) (l : Line) → value bit (in
 inverted_value bit u l = elim (cases_Bool (l.0 == u)) [ inl is ↦ rw is refl | inr is ↦ rw is refl ]
 
 -- the wires that stand in it
-stands_same : (w u : ℕ) (l : Line) → stands w (inverted_line u l).1 ≡ stands w l.1
+pub stands_same : (w u : ℕ) (l : Line) → stands w (inverted_line u l).1 ≡ stands w l.1
 stands_same w u l = elim (cases_Bool (l.0 == u)) [ inl is ↦ rw is refl | inr is ↦ rw is refl ]
 
 -- whether they are below a number
@@ -32,11 +31,6 @@ as_many w u [] = refl
 as_many w u (l ∷ ls) =
     sum_by-cons (λ k. cond (k.0 == w) 1 0) (inverted_line u l) (map (inverted_line u) ls)
     ∙ (ap (λ n. cond (l.0 == w) 1 0 + n) (as_many w u ls) ∙ sym (sum_by-cons (λ k. cond (k.0 == w) 1 0) l ls))
-
--- the order of equations
-pub order_same : (u : ℕ) (known : ℕ → Bool) (lines : List Line) → InOrder known lines → InOrder known (map (inverted_line u) lines)
-order_same u known [] order = tt
-order_same u known (l ∷ ls) order = ((λ w s. order.0 w (sym (stands_same w u l) ∙ s)), order_same u (λ w. (w == l.0) || known w) ls order.1)
 
 -- a net stays a net
 pub inverted_well_formed : (u : ℕ) (net : PlainNet) → WellFormed net → WellFormed (inverted_at u net)

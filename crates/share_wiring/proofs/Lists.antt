@@ -1,7 +1,7 @@
 -- Facts on lists.
-use Rattle.std.proofs.Common.{◌≡◌, ◌<◌, ◌≤◌, ◌+◌, ◌++◌, ℕ, zero, suc, Bool, true, false, ◌==◌, List, [], ◌∷◌, map, filter, cond, IsTrue, refl, ap, ap₂, ◌∙◌, subst, zero-add, arith, inl, inr, length, count_by, slice_get, Some, flat_map}
+use Rattle.std.proofs.Common.{ne_eqb, eq-eqb, ◌≡◌, ◌<◌, ◌≤◌, ◌+◌, ◌++◌, ℕ, zero, suc, Bool, true, false, ◌==◌, List, [], ◌∷◌, map, filter, cond, IsTrue, refl, ap, ap₂, ◌∙◌, subst, zero-add, arith, inl, inr, length, count_by, slice_get, Some, flat_map}
 use Rattle.std.specs.List.{AllByRecursion, list_any, range_with_len}
-use Rattle.std.proofs.lemmas.Bool.{eqb-true, or_cases, or_left, or_right, or_parts, cases_Bool, cases_eq}
+use Rattle.std.proofs.lemmas.Bool.{eqb-true, or_cases, or_parts, cases_Bool, cases_eq}
 use Rattle.std.proofs.lemmas.List.{map-append}
 use Rattle.std.proofs.lemmas.List.Sums.{sum_by-cons}
 
@@ -79,16 +79,6 @@ agree_at f g (x ∷ xs) same w some =
     let tail : map f xs ≡ map g xs = cc in
     elim (or_cases (x == w) (list_any (λ b. b == w) xs) some) [ inl here ↦ let is : x ≡ w = eqb-true x w here in cc | inr later ↦ agree_at f g xs tail w later ]
 
--- an item of a list that numbers in a row give passes a test
-pub any_in_range : {X : Type 0} (test : X → Bool) (f : ℕ → X) (P : Type 0) (a n : ℕ) → ((i : ℕ) → i < a + n → IsTrue (test (f i)) → P)
-    → IsTrue (list_any test (map f (range_with_len a n))) → P
-any_in_range test f P a zero go some = absurd (let no : false ≡ true = some in cc)
-any_in_range test f P a (suc n) go some =
-    elim (or_cases (test (f a)) (list_any test (map f (range_with_len (a + 1) n))) some) [
-      | inl here ↦ go a (omega arith) here
-      | inr there ↦ any_in_range test f P (a + 1) n (λ i lt. go i (omega arith)) there
-    ]
-
 -- counts of one item more
 pub count_yes : {X : Type 0} (test : X → Bool) (x : X) (xs : List X) → IsTrue (test x) → count_by test (x ∷ xs) ≡ 1 + count_by test xs
 count_yes test x xs h = sum_by-cons (λ y. cond (test y) 1 0) x xs ∙ ap (λ b. cond b 1 0 + count_by test xs) h
@@ -132,11 +122,15 @@ pub all_in_range : {X : Type 0} (P : X → Type 0) (f : ℕ → X) (a n : ℕ) �
 all_in_range P f a zero h = tt
 all_in_range P f a (suc n) h = (h a (omega arith), all_in_range P f (a + 1) n (λ i lt. h i (omega arith)))
 
--- a test that the item of one number passes is passed by some item
-pub found_in_range : {X : Type 0} (test : X → Bool) (f : ℕ → X) (i a n : ℕ) → a ≤ i → i < a + n → IsTrue (test (f i)) → IsTrue (list_any test (map f (range_with_len a n)))
-found_in_range test f i a zero le lt h = absurd (omega arith)
-found_in_range test f i a (suc n) le lt h =
-    elim (cases_eq a i) [
-      | inl here ↦ or_left (test (f a)) (list_any test (map f (range_with_len (a + 1) n))) (ap (λ k. test (f k)) here ∙ h)
-      | inr apart ↦ or_right (test (f a)) (list_any test (map f (range_with_len (a + 1) n))) (found_in_range test f i (a + 1) n (omega arith) (omega arith) h)
+-- how often a number is in a row
+pub row_before : (a n w : ℕ) → w < a → count_by (λ b. b == w) (range_with_len a n) ≡ 0
+row_before a zero w lt = refl
+row_before a (suc n) w lt = count_no (λ b. b == w) a (range_with_len (a + 1) n) (ne_eqb a w (λ e. (let same = e in omega arith))) ∙ row_before (a + 1) n w (omega arith)
+
+pub row_once : (a n w : ℕ) → count_by (λ b. b == w) (range_with_len a n) ≤ 1
+row_once a zero w = omega arith
+row_once a (suc n) w =
+    elim (cases_eq a w) [
+      | inl same ↦ (let one = count_yes (λ b. b == w) a (range_with_len (a + 1) n) (eq-eqb a w same) in let rest = row_before (a + 1) n w (omega arith) in omega (arith, one, rest))
+      | inr other ↦ (let no_more = count_no (λ b. b == w) a (range_with_len (a + 1) n) (ne_eqb a w other) in let rest = row_once (a + 1) n w in omega (arith, no_more, rest))
     ]

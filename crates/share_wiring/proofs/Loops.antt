@@ -1,17 +1,11 @@
 -- Equations in order, each for a wire of its own, have no loop; and a loop among shares would be one among wires.
-use Rattle.std.proofs.Common.{◌≡◌, ◌<◌, ◌≤◌, ◌+◌, ◌-◌, ◌*◌, ◌/◌, ◌==◌, ℕ, zero, suc, Bool, true, false, ◌&&◌, ◌||◌, cond, List, [], ◌∷◌, map, IsTrue, refl, sym, ap, ◌∙◌, inl, inr, eq-eqb, arith, subst}
-use Rattle.std.specs.List.{AllByRecursion, list_any}
-use Rattle.std.proofs.lemmas.Bool.{eqb-true, or_cases, or_left, or_right, and_parts, and_from, cases_Bool, both_ways, false_from_ne_true}
-use Rattle.std.proofs.lemmas.Nat.{div-mul-add}
-use Rattle.std.proofs.lemmas.List.Folds.{list_any-append}
-use Rattle.agm_net.specs.Formula.{Formula, f_wire, f_not, f_xor, stands}
+use Rattle.std.proofs.Common.{◌≡◌, ◌<◌, ◌≤◌, ◌==◌, ℕ, zero, suc, Bool, true, false, ◌&&◌, ◌||◌, cond, List, [], ◌∷◌, IsTrue, refl, sym, ap, ◌∙◌, inl, inr, eq-eqb, arith}
+use Rattle.std.specs.List.{list_any}
+use Rattle.std.proofs.lemmas.Bool.{eqb-true, or_cases, or_left, or_right, and_parts, cases_Bool, both_ways, false_from_ne_true}
+use Rattle.agm_net.specs.Formula.{stands}
 use Rattle.agm_net.specs.Plain.{Line, PlainNet}
 use Rattle.agm_net.specs.Loop.{reads, IsChain, last_of, HasNoLoop}
-use Rattle.agm_net.specs.Simple.{IsLinear, ReadsKnown}
-use Rattle.share_wiring.specs.Shape.{indices}
-use Rattle.share_wiring.specs.Masked.{share_wire, share_formula, masked_lines, masked_net}
-use Rattle.share_wiring.proofs.Lists.{any_in_range}
-use Rattle.share_wiring.proofs.Recombine.{share_line}
+use Rattle.agm_net.specs.Simple.{ReadsKnown}
 
 -- whether an equation is for wire w and reads wire v
 abbrev pub line_reads : ℕ → ℕ → Line → Bool
@@ -94,66 +88,3 @@ no_loop net known f (w ∷ ws) is =
     let down = chain_falls (place net.lines) (reads net) falls w ws is.0 in
     let back = falls (last_of w ws) w is.1 in
     omega arith
-
--- the wire whose share a wire is
-abbrev pub wire_of : ℕ → ℕ → ℕ
-wire_of d u = (u - 2) / (d + 1)
-
--- a share's wire is the one it was made from
-pub wire_of_share : (d w i : ℕ) → i < d + 1 → wire_of d (share_wire d w i) ≡ w
-wire_of_share d w i lt =
-    let same : (share_wire d w i) - 2 ≡ w * (d + 1) + i = omega arith in
-    ap (λ k. k / (d + 1)) same ∙ div-mul-add w (d + 1) i lt
-
--- the same, where a wire is known to be a share
-share_is : (d a i u : ℕ) → i < d + 1 → IsTrue (share_wire d a i == u) → wire_of d u ≡ a
-share_is d a i u lt h = ap (wire_of d) (sym (eqb-true (share_wire d a i) u h)) ∙ wire_of_share d a i lt
-
--- what a share of a formula reads is a share of what the formula reads
-formula_reads : (d i u : ℕ) (f : Formula) → i < d + 1 → IsLinear f → IsTrue (stands u (share_formula d i f)) → IsTrue (stands (wire_of d u) f)
-formula_reads d i u (f_wire a) lt linear h = eq-eqb a (wire_of d u) (sym (share_is d a i u lt h))
-formula_reads d zero u (f_not (f_wire a)) lt linear h = eq-eqb a (wire_of d u) (sym (share_is d a zero u lt h))
-formula_reads d (suc i) u (f_not (f_wire a)) lt linear h = eq-eqb a (wire_of d u) (sym (share_is d a (suc i) u lt h))
-formula_reads d i u (f_xor (f_wire a) (f_wire b)) lt linear h =
-    elim (or_cases (share_wire d a i == u) (share_wire d b i == u) h) [
-      | inl left ↦ or_left (a == wire_of d u) (b == wire_of d u) (eq-eqb a (wire_of d u) (sym (share_is d a i u lt left)))
-      | inr right ↦ or_right (a == wire_of d u) (b == wire_of d u) (eq-eqb b (wire_of d u) (sym (share_is d b i u lt right)))
-    ]
-formula_reads d i u _ lt linear h = absurd linear
-
--- what a share of an equation reads is a share of what the equation reads
-share_reads : (d u v : ℕ) (l : Line) → IsLinear l.1 → (i : ℕ) → i < d + 1 → IsTrue (line_reads u v (share_line d l i)) → IsTrue (line_reads (wire_of d u) (wire_of d v) l)
-share_reads d u v l linear i lt h =
-    let parts = and_parts (share_wire d l.0 i == u) (stands v (share_formula d i l.1)) h in
-    and_from (l.0 == wire_of d u) (stands (wire_of d v) l.1) (eq-eqb l.0 (wire_of d u) (sym (share_is d l.0 i u lt parts.0))) (formula_reads d i v l.1 lt linear parts.1)
-
--- the same of all equations
-shares_read : (d u v : ℕ) (lines : List Line) → AllByRecursion (λ l. IsLinear l.1) lines → IsTrue (reads_in (masked_lines d lines) u v) → IsTrue (reads_in lines (wire_of d u) (wire_of d v))
-shares_read d u v [] linear h = h
-shares_read d u v (l ∷ ls) linear h =
-    let split = list_any-append (line_reads u v) (map (share_line d l) (indices d)) (masked_lines d ls) in
-    elim (or_cases (reads_in (map (share_line d l) (indices d)) u v) (reads_in (masked_lines d ls) u v) (sym split ∙ h)) [
-      | inl here ↦ or_left (line_reads (wire_of d u) (wire_of d v) l) (reads_in ls (wire_of d u) (wire_of d v))
-          (any_in_range (line_reads u v) (share_line d l) (IsTrue (line_reads (wire_of d u) (wire_of d v) l)) 0 (d + 1) (λ i lt. share_reads d u v l linear.0 i (omega arith)) here)
-      | inr there ↦ or_right (line_reads (wire_of d u) (wire_of d v) l) (reads_in ls (wire_of d u) (wire_of d v)) (shares_read d u v ls linear.1 there)
-    ]
-
--- the image of a chain
-chain_image : (related image : ℕ → ℕ → Bool) (f : ℕ → ℕ) → ((w v : ℕ) → IsTrue (related w v) → IsTrue (image (f w) (f v))) → (w : ℕ) (ws : List ℕ) → IsChain related w ws
-    → IsChain image (f w) (map f ws)
-chain_image related image f go w [] c = tt
-chain_image related image f go w (v ∷ vs) c = (go w v c.0, chain_image related image f go v vs c.1)
-
--- the last wire of the image
-last_image : (f : ℕ → ℕ) (w : ℕ) (ws : List ℕ) → last_of (f w) (map f ws) ≡ f (last_of w ws)
-last_image f w [] = refl
-last_image f w (v ∷ vs) = last_image f v vs
-
--- a net without a loop has none when it is masked
-pub masked_has_no_loop : (d : ℕ) (net : PlainNet) → AllByRecursion (λ l. IsLinear l.1) net.lines → HasNoLoop net → HasNoLoop (masked_net d net)
-masked_has_no_loop d net linear none [] is = is
-masked_has_no_loop d net linear none (w ∷ ws) is =
-    let f = wire_of d in
-    let go = λ (u v : ℕ) (h : IsTrue (reads (masked_net d net) u v)). shares_read d u v net.lines linear h in
-    let back : IsTrue (reads net (last_of (f w) (map f ws)) (f w)) = subst (λ k. IsTrue (reads net k (f w))) (sym (last_image f w ws)) (go (last_of w ws) w is.1) in
-    none (f w ∷ map f ws) (chain_image (reads (masked_net d net)) (reads net) f go w ws is.0, back)

@@ -15,8 +15,7 @@ use Rattle.share_wiring.specs.Recombine.{xor_rows, port_value}
 use Rattle.share_wiring.specs.Shape.{Shape, Header, header_of}
 use Rattle.share_wiring.specs.Schedule.{Drives, chosen, input_values, stream_at}
 use Rattle.share_wiring.specs.Worked.{one_wide, toggle, toggle_report, masked_toggle, toggle_streams, masked_power, masked_tape, masked_table}
-use Rattle.share_wiring.proofs.Lists.{all_of_one}
-use Rattle.share_wiring.proofs.ShareWires.{times-range-le}
+use Rattle.share_wiring.proofs.Lists.{all_of_one, row_once}
 use Rattle.share_wiring.proofs.Loops.{no_loop}
 use Rattle.share_wiring.proofs.Decide.{each_passes, names_differ, they_are_fresh, trace_from, same_row, rows_same}
 
@@ -49,7 +48,7 @@ is_net = record {
   ports_right = record {
     ports_differ = names_differ (map (λ p. p.name) masked_toggle.ports) refl;
     bits_named = λ n p at. all_of_one IsNamed masked_toggle.ports n p (refl, (refl, (one_wide_named (codes "agm_r"), (one_wide_named (codes "agm_q_s0"), (one_wide_named (codes "agm_q_s1"), (refl, (refl, (refl, (refl, (refl, (refl, tt))))))))))) at;
-    one_port = λ w. times-range-le w 0 11;
+    one_port = λ w. row_once 0 11 w;
     clock_fits = λ c e. (let is : 0 ≡ c = cc in subst (λ k. IsTrue (option_map_or is_clock_port (slice_get masked_toggle.ports k) false)) is refl);
   };
   wires_differ = names_differ masked_toggle.wires refl;

@@ -1,272 +1,382 @@
--- A masked simple net with one share of an output inverted is not the same as the original.
-use Rattle.std.proofs.Common.{◌≡◌, ◌<◌, ◌≤◌, ◌+◌, ◌==◌, ◌||◌, ℕ, zero, suc, Bool, true, false, not, cond, List, [], ◌∷◌, map, filter, flat_map, length, IsTrue, slice_get, Some, refl, sym, ap, ap₂, subst, ◌∙◌, inl, inr, eq-eqb, ne_eqb, arith}
-use Rattle.std.specs.List.{AllByRecursion, list_any}
-use Rattle.std.proofs.lemmas.Bool.{cases_Bool, cases_eq, or_cases, both_ways, cond-true, cond-false, eqb-true}
-use Rattle.std.proofs.lemmas.List.{map-append, length-map}
-use Rattle.std.proofs.lemmas.Simd.{map-map}
-use Rattle.agm_net.specs.Formula.{xor, value}
-use Rattle.agm_net.specs.Plain.{Line, PlainNet, is_input, input_bits, bit_names}
-use Rattle.agm_net.specs.Trace.{Row, bit_at, Holds, IsTrace}
-use Rattle.agm_net.specs.Loop.{HasNoLoop}
-use Rattle.agm_net.specs.WellFormed.{WellFormed}
-use Rattle.agm_net.specs.Simple.{IsLinear, InOrder, IsSimple}
+-- A masked net with one share of an output inverted is not the same as the original.
+use Rattle.std.proofs.Common.{◌≡◌, ◌≢◌, ◌<◌, ◌≤◌, ◌+◌, ◌==◌, ◌&&◌, ◌||◌, ◌++◌, ◌^◌, ℕ, zero, suc, Bool, true, false, not, cond, List, [], ◌∷◌, Some, map, filter, flat_map, reverse, length, count_by, is_none, IsTrue, slice_get, slice_index_or, bytes_eq, codes, refl, sym, ap, ap₂, subst, ◌∙◌, inl, inr, arith, eq-eqb, ne_eqb, zero-add}
+use Rattle.std.specs.List.{AllByRecursion, list_any, range_with_len}
+use Rattle.std.specs.Option.{option_map_or}
+use Rattle.std.proofs.lemmas.Bool.{cases_Bool, cases_eq, cases_lt, and_parts, both_ways, cond-true, cond-false, false_from_ne_true}
+use Rattle.std.proofs.lemmas.List.{length-map}
+use Rattle.std.proofs.lemmas.List.FromFn.{length-map-range_with_len, get_or-map-range_with_len}
+use Rattle.std.proofs.lemmas.List.Sums.{sum_by-append}
+use Rattle.std.proofs.lemmas.Slice.Eq.{bytes_eq-Decides}
+use Rattle.agm_net.specs.Formula.{xor, value, stands, reads_below}
+use Rattle.agm_net.specs.Plain.{Line, Stored, PlainNet, is_in, is_input, input_bits, clock_bits, data_ports, bit_names}
+use Rattle.agm_net.specs.Role.{share_name, state_name}
+use Rattle.agm_net.specs.Trace.{Row, row_at, bit_at, Holds, IsTrace}
+use Rattle.agm_net.specs.Loop.{reads, IsChain, last_of, HasNoLoop}
+use Rattle.agm_net.specs.WellFormed.{Differ, WellFormed, is_clock_port}
 use Rattle.agm_net.specs.declared.mark.Mark.{Mark}
-use Rattle.agm_net.specs.declared.port.Way.TheVariants.{Output}
+use Rattle.agm_net.specs.declared.port.Way.TheVariants.{Input}
 use Rattle.agm_net.specs.declared.port.Port.{Port}
-use Rattle.share_wiring.specs.Recombine.{xor_below, masked_value}
-use Rattle.share_wiring.specs.Shape.{Shape, indices}
-use Rattle.share_wiring.specs.Schedule.{Stream, Drives}
-use Rattle.share_wiring.specs.Same.{Same, TellsSecrets}
-use Rattle.share_wiring.specs.Masked.{share_wire, share_formula, masked_lines, masked_net, simple_report}
-use Rattle.share_wiring.specs.Inverted.{inverted_line, inverted_at}
-use Rattle.share_wiring.proofs.Lists.{all_front, all_back, all_below, all_of_one, agree_at}
-use Rattle.share_wiring.proofs.Recombine.{recombined, xor_same, not_xor, formula_sum, share_line, holds}
-use Rattle.share_wiring.proofs.Unique.{Agree, same_value, known_more}
-use Rattle.share_wiring.proofs.Loops.{wire_of, wire_of_share, no_loop}
-use Rattle.share_wiring.proofs.Drivers.{is_input_of, bits_in, is_bit_in, named_wires, fresh_lines, driver_cases}
-use Rattle.share_wiring.proofs.FirstWires.{StandFrom, stand}
-use Rattle.share_wiring.proofs.Ports.{masked_values}
-use Rattle.share_wiring.proofs.Shape.{all_are_data, has_shape}
-use Rattle.share_wiring.proofs.SameSimple.{inputs_recombine}
-use Rattle.share_wiring.proofs.HasTrace.{settled_row, ordered_has_trace}
-use Rattle.share_wiring.proofs.InOrder.{input_joined, one_input, masked_in_order}
-use Rattle.share_wiring.proofs.MaskedNet.{masked_well_formed}
-use Rattle.share_wiring.proofs.Driven.{IsOnTape, driving_tape, driving_tape_drives, driving_tape_fits}
-use Rattle.share_wiring.proofs.Inverted.{inverted_value, order_same, inverted_well_formed}
+use Rattle.share_wiring.specs.Recombine.{xor_rows, recombined_rows, port_value, is_shared, masked_value}
+use Rattle.share_wiring.specs.Shape.{Shape, Header, header_of}
+use Rattle.share_wiring.specs.Schedule.{Drives, reading_cycle}
+use Rattle.share_wiring.specs.Same.{Same}
+use Rattle.share_wiring.specs.Inverted.{inverted_line, inverted_at, IsUnread, IsShareOf, IsDriven}
+use Rattle.share_wiring.specs.declared.report.Report.{Report}
+use Rattle.share_wiring.proofs.Lists.{all_from, all_both, all_of_one, agree_at, count_some, map_same}
+use Rattle.share_wiring.proofs.Drivers.{named_wires, lines_fit}
+use Rattle.share_wiring.proofs.Driven.{bit_within, filtered, get_mapped, same_on, way_is, within_mapped}
+use Rattle.share_wiring.proofs.HasTrace.{NoLine, all_found, all_places, clock_wire, data_wire, found_of_all, output_wire, outputs, registers_fit}
+use Rattle.share_wiring.proofs.Inverted.{inverted_value, inverted_well_formed, stands_same}
+use Rattle.share_wiring.proofs.Names.{names_apart}
+use Rattle.share_wiring.proofs.Ports.{bits_named}
+use Rattle.share_wiring.proofs.ShapePorts.{IsOneOf, HasPort, bit_count, data_port, one_at, port_bits, public_port, share_port, width}
+use Rattle.share_wiring.proofs.Solved.{reads_are_below}
+use Rattle.share_wiring.proofs.Unique.{same_value}
 
--- ---- one inverted share inverts what the shares recombine to
+-- ---- rows of which one differs recombine differently
 
-xor_not : (x y : Bool) → xor x (not y) ≡ not (xor x y)
-xor_not false y = refl
-xor_not true false = refl
-xor_not true true = refl
+bit_left : (a x y : Bool) → xor a x ≡ xor a y → x ≡ y
+bit_left false x y e = e
+bit_left true false false e = refl
+bit_left true false true e = absurd (cc)
+bit_left true true false e = absurd (cc)
+bit_left true true true e = refl
 
--- one of some bits inverted
-xor_inverted : (n j : ℕ) (f g : ℕ → Bool) → j < n → ((i : ℕ) → i < n → f i ≡ cond (i == j) (not (g i)) (g i)) → xor_below n f ≡ not (xor_below n g)
-xor_inverted zero j f g lt h = absurd (omega arith)
-xor_inverted (suc n) j f g lt h =
-    elim (cases_eq n j) [
+bit_right : (a b x : Bool) → xor a x ≡ xor b x → a ≡ b
+bit_right false false x e = refl
+bit_right false true false e = absurd (cc)
+bit_right false true true e = absurd (cc)
+bit_right true false false e = absurd (cc)
+bit_right true false true e = absurd (cc)
+bit_right true true x e = refl
+
+row_left : (a x y : Row) → length x ≡ length a → length y ≡ length a → xor_rows a x ≡ xor_rows a y → x ≡ y
+row_left [] [] [] p q e = refl
+row_left [] (x ∷ xs) y p q e = absurd (omega arith)
+row_left [] [] (y ∷ ys) p q e = absurd (omega arith)
+row_left (a ∷ cs) [] y p q e = absurd (omega arith)
+row_left (a ∷ cs) (x ∷ xs) [] p q e = absurd (omega arith)
+row_left (a ∷ cs) (x ∷ xs) (y ∷ ys) p q e =
+    let head : xor a x ≡ xor a y = cc in
+    let tail : xor_rows cs xs ≡ xor_rows cs ys = cc in
+    ap₂ (λ z zs. z ∷ zs) (bit_left a x y head) (row_left cs xs ys (omega arith) (omega arith) tail)
+
+row_right : (a b x : Row) → length a ≡ length x → length b ≡ length x → xor_rows a x ≡ xor_rows b x → a ≡ b
+row_right [] [] x p q e = refl
+row_right [] (b ∷ bs) [] p q e = absurd (omega arith)
+row_right [] (b ∷ bs) (x ∷ xs) p q e = absurd (omega arith)
+row_right (a ∷ cs) b [] p q e = absurd (omega arith)
+row_right (a ∷ cs) [] (x ∷ xs) p q e = absurd (omega arith)
+row_right (a ∷ cs) (b ∷ bs) (x ∷ xs) p q e =
+    let head : xor a x ≡ xor b x = cc in
+    let tail : xor_rows cs xs ≡ xor_rows bs xs = cc in
+    ap₂ (λ z zs. z ∷ zs) (bit_right a b x head) (row_right cs bs xs (omega arith) (omega arith) tail)
+
+xor_count : (n : ℕ) (xs ys : Row) → length xs ≡ n → length ys ≡ n → length (xor_rows xs ys) ≡ n
+xor_count n [] ys p q = p
+xor_count n (x ∷ xs) [] p q = absurd (omega arith)
+xor_count zero (x ∷ xs) (y ∷ ys) p q = absurd (omega arith)
+xor_count (suc n) (x ∷ xs) (y ∷ ys) p q = ap suc (xor_count n xs ys (omega arith) (omega arith))
+
+rows_count : (d n : ℕ) (f : ℕ → Row) → ((j : ℕ) → j ≤ d → length (f j) ≡ n) → length (recombined_rows d f) ≡ n
+rows_count zero n f h = h 0 (omega arith)
+rows_count (suc d) n f h = xor_count n (recombined_rows d f) (f (suc d)) (rows_count d n f (λ j le. h j (omega arith))) (h (suc d) (omega arith))
+
+same_rows : (d : ℕ) (f g : ℕ → Row) → ((j : ℕ) → j ≤ d → f j ≡ g j) → recombined_rows d f ≡ recombined_rows d g
+same_rows zero f g h = h 0 (omega arith)
+same_rows (suc d) f g h = ap₂ xor_rows (same_rows d f g (λ j le. h j (omega arith))) (h (suc d) (omega arith))
+
+one_row : (d i n : ℕ) (f g : ℕ → Row) → i ≤ d → ((j : ℕ) → j ≤ d → length (f j) ≡ n) → ((j : ℕ) → j ≤ d → length (g j) ≡ n) → ((j : ℕ) → j ≤ d → j ≢ i → f j ≡ g j)
+    → recombined_rows d f ≡ recombined_rows d g → f i ≡ g i
+one_row zero i n f g le p q others e = let none : 0 ≡ i = omega arith in subst (λ k. f k ≡ g k) none e
+one_row (suc d) i n f g le p q others e =
+    let fs = rows_count d n f (λ j l. p j (omega arith)) in
+    let gs = rows_count d n g (λ j l. q j (omega arith)) in
+    let fl = p (suc d) (omega arith) in
+    let gl = q (suc d) (omega arith) in
+    elim (cases_eq (suc d) i) [
       | inl last ↦ (
-          let before : xor_below n f ≡ xor_below n g =
-          xor_same n f g (λ i below. h i (omega arith) ∙ cond-false (i == j) (not (g i)) (g i) (ne_eqb i j (λ same. omega arith))) in
-          let here : f n ≡ not (g n) = h n (omega arith) ∙ cond-true (n == j) (not (g n)) (g n) (eq-eqb n j last) in
-          ap₂ xor before here ∙ xor_not (xor_below n g) (g n))
+          let before : recombined_rows d f ≡ recombined_rows d g = same_rows d f g (λ j l. others j (omega arith) (λ is. omega (arith, l, last, is))) in
+          let here : xor_rows (recombined_rows d f) (f (suc d)) ≡ xor_rows (recombined_rows d f) (g (suc d)) = e ∙ ap (λ r. xor_rows r (g (suc d))) (sym before) in
+          subst (λ k. f k ≡ g k) last (row_left (recombined_rows d f) (f (suc d)) (g (suc d)) (fl ∙ sym fs) (gl ∙ sym fs) here))
       | inr apart ↦ (
-          let before : xor_below n f ≡ not (xor_below n g) = xor_inverted n j f g (omega arith) (λ i below. h i (omega arith)) in
-          let here : f n ≡ g n = h n (omega arith) ∙ cond-false (n == j) (not (g n)) (g n) (ne_eqb n j apart) in
-          ap₂ xor before here ∙ not_xor (xor_below n g) (g n))
+          let last : f (suc d) ≡ g (suc d) = others (suc d) (omega arith) apart in
+          let here : xor_rows (recombined_rows d f) (f (suc d)) ≡ xor_rows (recombined_rows d g) (f (suc d)) = e ∙ ap (xor_rows (recombined_rows d g)) (sym last) in
+          one_row d i n f g (omega (arith, le, apart)) (λ j l. p j (omega arith)) (λ j l. q j (omega arith)) (λ j l other. others j (omega arith) other)
+          (row_right (recombined_rows d f) (recombined_rows d g) (f (suc d)) (fs ∙ sym fl) (gs ∙ sym fl) here))
     ]
 
--- shares of one wire differ as their indices do
-one_share : (d a i j : ℕ) → (share_wire d a i == share_wire d a j) ≡ (i == j)
-one_share d a i j =
-    elim (cases_eq i j) [
-      | inl same ↦ eq-eqb (share_wire d a i) (share_wire d a j) (ap (share_wire d a) same) ∙ sym (eq-eqb i j same)
-      | inr apart ↦ ne_eqb (share_wire d a i) (share_wire d a j) (λ e. apart (omega arith)) ∙ sym (ne_eqb i j apart)
-    ]
+-- ---- the net
 
--- shares of different wires differ
-other_wire : (d a b i j : ℕ) → i < d + 1 → j < d + 1 → (a == b) ≡ false → (share_wire d a i == share_wire d b j) ≡ false
-other_wire d a b i j lt less apart =
-    ne_eqb (share_wire d a i) (share_wire d b j) (λ e.
-    let same : a ≡ b = sym (wire_of_share d a i lt) ∙ (ap (wire_of d) e ∙ wire_of_share d b j less) in
-    both_ways (a == b) apart (eq-eqb a b same))
+reads_same : (u w v : ℕ) (lines : List Line) → list_any (λ l. (l.0 == w) && stands v l.1) (map (inverted_line u) lines) ≡ list_any (λ l. (l.0 == w) && stands v l.1) lines
+reads_same u w v [] = refl
+reads_same u w v (l ∷ ls) = ap₂ (λ a b. ((l.0 == w) && a) || b) (stands_same v u l) (reads_same u w v ls)
 
--- where one share's equation is inverted, the recombined bits fulfil the equations with the wire's inverted
-recombines_inverted : (d n j : ℕ) (bit : ℕ → Bool) (lines : List Line) → j < d + 1 → AllByRecursion (λ l. IsLinear l.1) lines
-    → Holds bit (map (inverted_line (share_wire d n j)) (masked_lines d lines)) → Holds (recombined d bit) (map (inverted_line n) lines)
-recombines_inverted d n j bit [] less linear h = tt
-recombines_inverted d n j bit (l ∷ ls) less linear h =
-    let u = share_wire d n j in
-    let split = subst (AllByRecursion (holds bit)) (map-append (inverted_line u) (map (share_line d l) (indices d)) (masked_lines d ls)) h in
-    let front = all_front (holds bit) (map (inverted_line u) (map (share_line d l) (indices d))) (map (inverted_line u) (masked_lines d ls)) split in
-    let back = all_back (holds bit) (map (inverted_line u) (map (share_line d l) (indices d))) (map (inverted_line u) (masked_lines d ls)) split in
-    let each = all_below (holds bit) (λ i. inverted_line u (share_line d l i)) (d + 1) (subst (AllByRecursion (holds bit)) (map-map (inverted_line u) (share_line d l) (indices d)) front) in
-    let own = λ (i : ℕ). bit (share_wire d l.0 i) in
-    let said = λ (i : ℕ). value bit (share_formula d i l.1) in
-    let is = λ (i : ℕ) (lt : i < d + 1). each i lt ∙ inverted_value bit u (share_line d l i) in
-    let whole : value (recombined d bit) (inverted_line n l).1 ≡ cond (l.0 == n) (not (value (recombined d bit) l.1)) (value (recombined d bit) l.1) = inverted_value (recombined d bit) n l in
-    let here : recombined d bit l.0 ≡ cond (l.0 == n) (not (value (recombined d bit) l.1)) (value (recombined d bit) l.1) =
-    elim (cases_Bool (l.0 == n)) [
-      | inl one ↦ (
-          let wire : n ≡ l.0 = sym (eqb-true l.0 n one) in
-          let index = λ (i : ℕ). ap (λ w. share_wire d l.0 i == share_wire d w j) wire ∙ one_share d l.0 i j in
-          xor_inverted (d + 1) j own said less (λ i lt. is i lt ∙ ap (λ b. cond b (not (said i)) (said i)) (index i))
-          ∙ (ap not (formula_sum d bit l.1 linear.0) ∙ sym (cond-true (l.0 == n) (not (value (recombined d bit) l.1)) (value (recombined d bit) l.1) one)))
-      | inr other ↦
-          xor_same (d + 1) own said (λ i lt. is i lt ∙ cond-false (share_wire d l.0 i == u) (not (said i)) (said i) (other_wire d l.0 n i j lt less other))
-          ∙ (formula_sum d bit l.1 linear.0 ∙ sym (cond-false (l.0 == n) (not (value (recombined d bit) l.1)) (value (recombined d bit) l.1) other))
-    ] in
-    (here ∙ sym whole, recombines_inverted d n j bit ls less linear.1 back)
+chain_same : (u : ℕ) (net : PlainNet) (w : ℕ) (ws : List ℕ) → IsChain (reads (inverted_at u net)) w ws → IsChain (reads net) w ws
+chain_same u net w [] c = tt
+chain_same u net w (v ∷ vs) c = (sym (reads_same u w v net.lines) ∙ c.0, chain_same u net v vs c.1)
 
--- ---- with one equation inverted, its wire has the inverse
+still_no_loop : (u : ℕ) (net : PlainNet) → HasNoLoop net → HasNoLoop (inverted_at u net)
+still_no_loop u net none [] is = is
+still_no_loop u net none (w ∷ ws) is = none (w ∷ ws) (chain_same u net w ws is.0, sym (reads_same u (last_of w ws) w net.lines) ∙ is.1)
 
-wire_inverted : (known : ℕ → Bool) (n : ℕ) (lines : List Line) (x y : ℕ → Bool) → InOrder known lines → Holds x lines → Holds y (map (inverted_line n) lines) → Agree known y x
-    → IsTrue (list_any (λ l. l.0 == n) lines) → y n ≡ not (x n)
-wire_inverted known n [] x y order h g agree some = absurd (let no : false ≡ true = some in cc)
-wire_inverted known n (l ∷ ls) x y order h g agree some =
-    let said = value y l.1 in
-    let same : said ≡ x l.0 = same_value y x l.1 (λ w s. agree w (order.0 w s)) ∙ sym h.0 in
-    let here : y l.0 ≡ cond (l.0 == n) (not said) said = g.0 ∙ inverted_value y n l in
-    elim (cases_Bool (l.0 == n)) [
-      | inl is ↦ (
-          let wire : l.0 ≡ n = eqb-true l.0 n is in
-          ap y (sym wire) ∙ (here ∙ (cond-true (l.0 == n) (not said) said is ∙ (ap not same ∙ ap (λ w. not (x w)) wire))))
-      | inr other ↦ (
-          let equal : y l.0 ≡ x l.0 = here ∙ (cond-false (l.0 == n) (not said) said other ∙ same) in
-          let there : IsTrue (list_any (λ k. k.0 == n) ls) =
-          elim (or_cases (l.0 == n) (list_any (λ k. k.0 == n) ls) some) [ inl is ↦ absurd (both_ways (l.0 == n) other is) | inr rest ↦ rest ] in
-          wire_inverted (λ w. (w == l.0) || known w) n ls x y order.1 h.1 g.1 (known_more known y x l.0 agree equal) there)
-    ]
+-- the bits with that of wire u inverted
+abbrev flip : ℕ → (ℕ → Bool) → ℕ → Bool
+flip u bit w = cond (w == u) (not (bit w)) (bit w)
 
--- ---- the wire of an output port is no input's
+flip_other : (u : ℕ) (bit : ℕ → Bool) (w : ℕ) → w ≢ u → flip u bit w ≡ bit w
+flip_other u bit w other = cond-false (w == u) (not (bit w)) (bit w) (ne_eqb w u other)
 
--- an input bit of one port of one bit is that bit, and the port is an input
-only_bit : (p : Port) (a w : ℕ) → p.bits ≡ a ∷ [] → IsTrue (is_input_of (p ∷ []) w) → (is_input p ≡ true) × (a ≡ w)
-only_bit p a w one some =
-    elim (cases_Bool (is_input p)) [
-      | inl input ↦ (
-          let found : IsTrue ((a == w) || false) = ap (list_any (λ b. b == w)) (sym one) ∙ (sym (one_input p w input) ∙ some) in
-          (input, elim (or_cases (a == w) false found) [ inl is ↦ eqb-true a w is | inr none ↦ absurd (let wrong : false ≡ true = none in cc) ]))
-      | inr output ↦ absurd (both_ways (is_input_of (p ∷ []) w) (rw output refl) some)
-    ]
+-- equations that do not read u hold of the new bits, that of u inverted
+flipped_hold : (n u : ℕ) (bit bit' : ℕ → Bool) (lines : List Line) → ((w : ℕ) → w < n → bit' w ≡ flip u bit w) → AllByRecursion (λ l. (l.0 < n) × IsTrue (reads_below n l.1)) lines
+    → AllByRecursion (λ l. stands u l.1 ≡ false) lines → Holds bit lines → Holds bit' (map (inverted_line u) lines)
+flipped_hold n u bit bit' [] is fits unread h = tt
+flipped_hold n u bit bit' (l ∷ ls) is fits unread h =
+    let same : value bit' l.1 ≡ value bit l.1 =
+    same_value bit' bit l.1 (λ w s. is w (reads_are_below n l.1 fits.0.1 w s) ∙ flip_other u bit w (λ e. both_ways (stands u l.1) unread.0 (ap (λ k. stands k l.1) (sym e) ∙ s))) in
+    let here : bit' l.0 ≡ value bit' (inverted_line u l).1 =
+    is l.0 fits.0.0 ∙ (ap (λ x. cond (l.0 == u) (not x) x) (h.0 ∙ sym same) ∙ sym (inverted_value bit' u l)) in
+    (here, flipped_hold n u bit bit' ls is fits.1 unread.1 h.1)
 
--- the bits of input ports that stand from a on are not below a
-inputs_from : (a w : ℕ) (ports : List Port) → StandFrom a ports → IsTrue (is_input_of ports w) → a ≤ w
-inputs_from a w [] h some = absurd (let no : false ≡ true = some in cc)
-inputs_from a w (p ∷ ps) h some =
-    elim (or_cases (is_input_of (p ∷ []) w) (is_input_of ps w) (sym (input_joined (p ∷ []) ps w) ∙ some)) [
-      | inl here ↦ (let one = only_bit p a w h.0 here in omega arith)
-      | inr there ↦ (let more = inputs_from (a + 1) w ps h.1 there in omega arith)
-    ]
+unmapped : (P : ℕ → Type 0) (rs : List Stored) → AllByRecursion P (map (λ r. r.q) rs) → AllByRecursion (λ r. P r.q) rs
+unmapped P [] h = tt
+unmapped P (r ∷ rs) h = (h.0, unmapped P rs h.1)
 
--- a port whose bit is an input bit is an input port
-input_is_port : (a k w : ℕ) (ports : List Port) (p : Port) → StandFrom a ports → slice_get ports k ≡ Some p → w ≡ a + k → IsTrue (is_input_of ports w) → is_input p ≡ true
-input_is_port a k w [] p h at same some = absurd (let no : false ≡ true = some in cc)
-input_is_port a zero w (q ∷ qs) p h at same some =
-    let is : q ≡ p = cc in
-    elim (or_cases (is_input_of (q ∷ []) w) (is_input_of qs w) (sym (input_joined (q ∷ []) qs w) ∙ some)) [
-      | inl here ↦ ap is_input (sym is) ∙ (only_bit q a w h.0 here).0
-      | inr there ↦ absurd (let more = inputs_from (a + 1) w qs h.1 there in omega arith)
-    ]
-input_is_port a (suc k) w (q ∷ qs) p h at same some =
-    elim (or_cases (is_input_of (q ∷ []) w) (is_input_of qs w) (sym (input_joined (q ∷ []) qs w) ∙ some)) [
-      | inl here ↦ absurd (let one = only_bit q a w h.0 here in omega arith)
-      | inr there ↦ input_is_port (a + 1) k w qs p h.1 at (omega arith) there
-    ]
+module _ (net : PlainNet) (u : ℕ) (power : Row) (tape table : List Row) (well : WellFormed net) (unread : IsUnread net u) (line : IsTrue (list_any (λ l. l.0 == u) net.lines)) (trace : IsTrace net power tape table) where
+  abbrev n : ℕ
+  n = length net.wires
 
--- the bit of a port at its place
-port_bit : (a k b : ℕ) (ports : List Port) (p : Port) → StandFrom a ports → slice_get ports k ≡ Some p → a + k ≡ b → p.bits ≡ b ∷ []
-port_bit a k b [] p h at same = absurd (cc)
-port_bit a zero b (q ∷ qs) p h at same = let is : q ≡ p = cc in let here : a ≡ b = omega arith in ap (λ r. r.bits) (sym is) ∙ (h.0 ∙ ap (λ c. c ∷ []) here)
-port_bit a (suc k) b (q ∷ qs) p h at same = port_bit (a + 1) k b qs p h.1 at (omega arith)
+  abbrev pub flipped : List Row
+  flipped = map (λ t. map (flip u (bit_at table t)) (range_with_len 0 n)) (range_with_len 0 (length table))
 
--- ---- the theorem
+  count : length flipped ≡ length table
+  count = length-map-range_with_len (λ t. map (flip u (bit_at table t)) (range_with_len 0 n)) 0 (length table)
 
-module _ (d n j : ℕ) (net : PlainNet) (marks : List Mark) (p : Port) (last : d ≤ 7) (well : WellFormed net) (simple : IsSimple net marks) (index : j ≤ d)
-    (at : slice_get net.ports n ≡ Some p) (output : p.way ≡ Output) where
-  -- the masked net with that share inverted
-  abbrev wrong : PlainNet
-  wrong = inverted_at (share_wire d n j) (masked_net d net)
+  flipped_row : (t : ℕ) → t < length table → row_at flipped t ≡ map (flip u (bit_at table t)) (range_with_len 0 n)
+  flipped_row t lt = get_or-map-range_with_len (λ k. map (flip u (bit_at table k)) (range_with_len 0 n)) 0 (length table) t t [] lt (zero-add t)
 
-  pub wrong_well_formed : WellFormed wrong
-  wrong_well_formed = inverted_well_formed (share_wire d n j) (masked_net d net) (masked_well_formed d net marks last well simple)
+  pub flipped_bit : (t w : ℕ) → t < length table → w < n → bit_at flipped t w ≡ flip u (bit_at table t) w
+  flipped_bit t w lt below = ap (λ row. slice_index_or row w false) (flipped_row t lt) ∙ get_or-map-range_with_len (flip u (bit_at table t)) 0 n w w false below (zero-add w)
 
-  wrong_in_order : InOrder (is_bit_in wrong) wrong.lines
-  wrong_in_order = order_same (share_wire d n j) (is_bit_in (masked_net d net)) (masked_net d net).lines (masked_in_order d net marks simple)
+  -- a wire without an equation stays
+  stays : (t w : ℕ) → t < length table → NoLine net w → bit_at flipped t w ≡ bit_at table t w
+  stays t w lt wire = flipped_bit t w lt wire.within ∙ flip_other u (bit_at table t) w (λ e. both_ways (list_any (λ l. l.0 == w) net.lines) wire.no_line (ap (λ k. list_any (λ l. l.0 == k) net.lines) e ∙ line))
 
-  pub wrong_has_no_loop : HasNoLoop wrong
-  wrong_has_no_loop = no_loop wrong (is_bit_in wrong) (fresh_lines wrong wrong_well_formed wrong_in_order)
+  outputs_stay : (t : ℕ) → t < length table → AllByRecursion (λ r. bit_at flipped t r.q ≡ bit_at table t r.q) net.registers
+  outputs_stay t lt = unmapped (λ w. bit_at flipped t w ≡ bit_at table t w) net.registers (all_found (λ w. bit_at flipped t w ≡ bit_at table t w) (outputs net) (λ w found. stays t w lt (output_wire net well w found)))
 
-  pub wrong_has_shape : Shape net (simple_report d net) wrong
-  wrong_has_shape = let shape = has_shape d net marks simple in record { headers = shape.headers; clock = shape.clock }
-
-  -- the ports stand first
-  ports_stand : StandFrom 0 net.ports
-  ports_stand = stand net.wires 0 net.ports well.ports_right.bits_named simple.no_range simple.ports_first
-
-  bits_are : p.bits ≡ n ∷ []
-  bits_are = port_bit 0 n n net.ports p ports_stand at (omega arith)
-
-  -- the output has an equation
-  has_line : IsTrue (list_any (λ l. l.0 == n) net.lines)
-  has_line =
-      let wires = subst (AllByRecursion (λ w. w < length net.wires)) bits_are (named_wires net.wires p.bits (bit_names p.name p.range) (well.ports_right.bits_named n p at)) in
-      driver_cases net (IsTrue (list_any (λ l. l.0 == n) net.lines)) well simple.no_register n wires.0
-      (λ is. let input = input_is_port 0 n n net.ports p ports_stand at (omega arith) is in
-      let no : is_input p ≡ false = rw output refl in absurd (both_ways (is_input p) no input))
-      (λ line. line)
-
-  -- one step, with all inputs 0
-  abbrev inputs : List Row
-  inputs = map (λ w. false) (input_bits net) ∷ []
-
-  wide : AllByRecursion (λ row. length row ≡ length (input_bits net)) inputs
-  wide = (length-map (input_bits net) (λ w. false), tt)
-
-  abbrev tape : List Row
-  tape = driving_tape d net inputs
-
-  -- what the wrong net and the original do then
-  abbrev table : List Row
-  table = map (settled_row wrong) tape
-
-  abbrev first : List Row
-  first = map (settled_row net) inputs
-
-  wrong_trace : IsTrace wrong [] tape table
-  wrong_trace = ordered_has_trace wrong [] tape wrong_well_formed refl wrong_in_order refl (driving_tape_fits d net inputs)
-
-  first_trace : IsTrace net [] inputs first
-  first_trace = ordered_has_trace net [] inputs well simple.no_register simple.in_order (sym (ap length simple.no_register)) wide
-
-  abbrev streams : List Stream
-  streams = record { initial = []; steps = inputs } ∷ []
-
-  drives : Drives net [] (simple_report d net) wrong streams 1 table
-  drives =
-      let on : IsOnTape d net inputs table = record { as_long = wrong_trace.as_long; inputs_given = wrong_trace.inputs_given } in
-      let right = driving_tape_drives d net marks inputs table last well simple wide on in
-      record {
-        as_many = right.as_many;
-        as_long = right.as_long;
-        load = right.load;
-        public_state = right.public_state;
-        secret_state = right.secret_state;
-        inputs = right.inputs;
-        is_read = right.is_read;
-      }
-
-  no_secrets : TellsSecrets net marks []
-  no_secrets = record {
-    one_each = sym (ap length simple.no_register);
-    tells = λ m r here. absurd (let no : slice_get [] m ≡ Some r = ap (λ rs. slice_get rs m) (sym simple.no_register) ∙ here in cc);
+  pub flipped_trace : IsTrace (inverted_at u net) power tape flipped
+  flipped_trace = record {
+    as_long = count ∙ trace.as_long;
+    as_wide = λ t lt. ap length (flipped_row t (omega (arith, count, lt))) ∙ length-map-range_with_len (flip u (bit_at table t)) 0 n;
+    equations_hold = λ t lt.
+        let within : t < length table = omega (arith, count, lt) in
+        flipped_hold n u (bit_at table t) (bit_at flipped t) net.lines (λ w below. flipped_bit t w within below) (lines_fit net well) unread.0 (trace.equations_hold t within);
+    inputs_given = λ t lt.
+        let within : t < length table = omega (arith, count, lt) in
+        same_on (bit_at flipped t) (bit_at table t) (input_bits net) (λ w found. stays t w within (data_wire net well w found)) ∙ trace.inputs_given t within;
+    clock_is_low = λ t lt.
+        let within : t < length table = omega (arith, count, lt) in
+        all_found (λ w. bit_at flipped t w ≡ false) (clock_bits net) (λ w found. stays t w within (clock_wire net well w found) ∙ found_of_all (λ v. bit_at table t v ≡ false) (clock_bits net) (trace.clock_is_low t within) w found);
+    power_given = λ some. map_same (λ (r : Stored). bit_at flipped 0 r.q) (λ r. bit_at table 0 r.q) net.registers (outputs_stay 0 (omega (arith, count, some))) ∙ trace.power_given (omega (arith, count, some));
+    registers_step = λ t lt.
+        let next : t + 1 < length table = omega (arith, count, lt) in
+        let now : t < length table = omega (arith, count, lt) in
+        let same = all_both (λ r. (r.q < n) × IsTrue (reads_below n r.next)) (λ r. stands u r.next ≡ false) (λ r. value (bit_at flipped t) r.next ≡ value (bit_at table t) r.next)
+        (λ r fits apart. same_value (bit_at flipped t) (bit_at table t) r.next
+        (λ w s. flipped_bit t w now (reads_are_below n r.next fits.1 w s) ∙ flip_other u (bit_at table t) w (λ e. both_ways (stands u r.next) apart (ap (λ k. stands k r.next) (sym e) ∙ s))))
+        net.registers (registers_fit net well) unread.1 in
+        let step = all_both (λ r. bit_at flipped (t + 1) r.q ≡ bit_at table (t + 1) r.q) (λ r. bit_at table (t + 1) r.q ≡ value (bit_at table t) r.next) (λ r. bit_at flipped (t + 1) r.q ≡ value (bit_at table t) r.next) (λ r a b. a ∙ b) net.registers (outputs_stay (t + 1) next) (trace.registers_step t next) in
+        all_both (λ r. bit_at flipped (t + 1) r.q ≡ value (bit_at table t) r.next) (λ r. value (bit_at flipped t) r.next ≡ value (bit_at table t) r.next) (λ r. bit_at flipped (t + 1) r.q ≡ value (bit_at flipped t) r.next) (λ r a b. a ∙ sym b) net.registers step same;
   }
 
-  -- the output is the inverse of the original's
-  is_inverse : recombined d (bit_at table 1) n ≡ not (bit_at first 0 n)
-  is_inverse =
-      let within : 1 < length table = drives.is_read 0 0 (omega arith) (omega arith) in
-      let values = masked_values d net (bit_at table 1) (omega arith) well.ports_right.ports_differ in
-      let given : map (recombined d (bit_at table 1)) (bits_in net) ≡ map (bit_at first 0) (bits_in net) =
-      sym (inputs_recombine d net (bit_at table 1) simple.no_clock values)
-      ∙ (drives.inputs 0 0 1 (omega arith) (omega arith) (omega arith)
-      ∙ (sym (first_trace.inputs_given 0 (omega arith)) ∙ ap (λ ps. map (bit_at first 0) (flat_map (λ q. q.bits) (filter is_input ps))) (all_are_data net simple.no_clock))) in
-      wire_inverted (is_bit_in net) n net.lines (bit_at first 0) (recombined d (bit_at table 1)) simple.in_order (first_trace.equations_hold 0 (omega arith))
-      (recombines_inverted d n j (bit_at table 1) net.lines (omega arith) simple.linear (wrong_trace.equations_hold 1 within))
-      (agree_at (recombined d (bit_at table 1)) (bit_at first 0) (bits_in net) given) has_line
+-- ---- ports
 
-  pub is_not_same : Same net marks (simple_report d net) wrong → ⊥
-  is_not_same same =
-      let claimed = same.outputs [] tape table [] streams 1 wrong_trace no_secrets drives 0 0 first (omega arith) (omega arith) first_trace n p at output in
-      let values = masked_values d net (bit_at table 1) (omega arith) well.ports_right.ports_differ in
-      let value : masked_value wrong (simple_report d net) p.name (bit_at table 1) ≡ map (recombined d (bit_at table 1)) p.bits =
-      all_of_one (λ q. masked_value (masked_net d net) (simple_report d net) q.name (bit_at table 1) ≡ map (recombined d (bit_at table 1)) q.bits) net.ports n p values at in
-      let equal : map (recombined d (bit_at table 1)) (n ∷ []) ≡ map (bit_at first 0) (n ∷ []) =
-      ap (map (recombined d (bit_at table 1))) (sym bits_are) ∙ (sym value ∙ (claimed ∙ ap (map (bit_at first 0)) bits_are)) in
-      let bit : recombined d (bit_at table 1) n ≡ bit_at first 0 n = cc in
-      no_inverse (bit_at first 0 n) (sym bit ∙ is_inverse)
-    where
-      no_inverse : (b : Bool) → b ≡ not b → ⊥
-      no_inverse false e = cc
-      no_inverse true e = cc
+some_bit : (u m : ℕ) (q : Port) (ports : List Port) → slice_get ports m ≡ Some q → IsTrue (list_any (λ b. b == u) q.bits) → 1 ≤ count_by (λ b. b == u) (flat_map (λ p. p.bits) ports)
+some_bit u m q [] at h = absurd (cc)
+some_bit u zero q (p ∷ ps) at h =
+    let is : p ≡ q = cc in
+    let split = sum_by-append (λ b. cond (b == u) 1 0) p.bits (flat_map (λ r. r.bits) ps) in
+    let some = count_some (λ b. b == u) p.bits (ap (λ (r : Port). list_any (λ b. b == u) r.bits) is ∙ h) in omega (arith, split, some)
+some_bit u (suc m) q (p ∷ ps) at h =
+    let split = sum_by-append (λ b. cond (b == u) 1 0) p.bits (flat_map (λ r. r.bits) ps) in
+    let rest = some_bit u m q ps at h in omega (arith, split, rest)
+
+no_bits : (u : ℕ) (ports : List Port) → count_by (λ b. b == u) (flat_map (λ p. p.bits) ports) ≡ 0 → AllByRecursion (λ p. list_any (λ b. b == u) p.bits ≡ false) ports
+no_bits u [] e = tt
+no_bits u (p ∷ ps) e =
+    let split = sum_by-append (λ b. cond (b == u) 1 0) p.bits (flat_map (λ r. r.bits) ps) in (
+      false_from_ne_true (list_any (λ b. b == u) p.bits) (λ h. let some = count_some (λ b. b == u) p.bits h in omega (arith, split, some, e)),
+      no_bits u ps (omega (arith, split, e)),
+    )
+
+-- a wire is a bit of one port alone
+bit_of_one : (u m : ℕ) (q : Port) (ports : List Port) → slice_get ports m ≡ Some q → IsTrue (list_any (λ b. b == u) q.bits) → count_by (λ b. b == u) (flat_map (λ p. p.bits) ports) ≤ 1
+    → AllByRecursion (λ p. p.name ≢ q.name → list_any (λ b. b == u) p.bits ≡ false) ports
+bit_of_one u m q [] at h once = tt
+bit_of_one u zero q (p ∷ ps) at h once =
+    let is : p ≡ q = cc in
+    let split = sum_by-append (λ b. cond (b == u) 1 0) p.bits (flat_map (λ r. r.bits) ps) in
+    let some = count_some (λ b. b == u) p.bits (ap (λ (r : Port). list_any (λ b. b == u) r.bits) is ∙ h) in (
+      (λ other. absurd (other (ap (λ (r : Port). r.name) is))),
+      all_from (λ r. list_any (λ b. b == u) r.bits ≡ false) (λ r. r.name ≢ q.name → list_any (λ b. b == u) r.bits ≡ false) (λ r none other. none) ps (no_bits u ps (omega (arith, split, some, once))),
+    )
+bit_of_one u (suc m) q (p ∷ ps) at h once =
+    let split = sum_by-append (λ b. cond (b == u) 1 0) p.bits (flat_map (λ r. r.bits) ps) in
+    let some = some_bit u m q ps at h in (
+      (λ other. false_from_ne_true (list_any (λ b. b == u) p.bits) (λ own. let one = count_some (λ b. b == u) p.bits own in omega (arith, split, some, one, once))),
+      bit_of_one u m q ps at h (omega (arith, split, once)),
+    )
+
+-- the bits of a name that is another port's
+other_named : (x y : ℕ → Bool) (name : List ℕ) (ports : List Port) → AllByRecursion (λ p. IsTrue (bytes_eq p.name name) → map x p.bits ≡ map y p.bits) ports → bits_named x name ports ≡ bits_named y name ports
+other_named x y name [] h = refl
+other_named x y name (p ∷ ps) h =
+    let rest = other_named x y name ps h.1 in
+    elim (cases_Bool (bytes_eq p.name name)) [ inl is ↦ rw is (ap₂ (λ a b. a ++ b) (h.0 is) rest) | inr other ↦ rw other rest ]
+
+-- ports of one name are one port
+same_number : (ports : List Port) (a b : ℕ) (p q : Port) → Differ (map (λ r. r.name) ports) → slice_get ports a ≡ Some p → slice_get ports b ≡ Some q → p.name ≡ q.name → a ≡ b
+same_number ports a b p q differ at there e =
+    let name : Port → List ℕ = λ r. r.name in
+    let alike = get_mapped name ports a p at ∙ (ap (λ x. Some x) e ∙ sym (get_mapped name ports b q there)) in
+    elim (cases_lt a b) [
+      | inl less ↦ absurd (differ a b less (within_mapped name ports b q there) alike)
+      | inr most ↦ elim (cases_eq a b) [
+        | inl same ↦ same
+        | inr other ↦ absurd (differ b a (omega (arith, most, other)) (within_mapped name ports a p at) (sym alike))
+      ]
+    ]
+
+row_past : (table : List Row) (t : ℕ) → length table ≤ t → row_at table t ≡ []
+row_past [] t le = refl
+row_past (row ∷ rows) zero le = absurd (omega arith)
+row_past (row ∷ rows) (suc t) le = row_past rows t (omega arith)
+
+no_inverse : (b : Bool) → b ≡ not b → ⊥
+no_inverse false e = cc
+no_inverse true e = cc
+
+module _ (original : PlainNet) (marks : List Mark) (report : Report) (net : PlainNet) (n i m u : ℕ) (p q : Port)
+    (first : WellFormed original) (well : WellFormed net) (same : Same original marks report net) (few : report.order < 2 ^ 32)
+    (output : IsShareOf original report net n i m u p q) (unread : IsUnread net u) (line : IsTrue (list_any (λ l. l.0 == u) net.lines)) where
+  abbrev wrong : PlainNet
+  wrong = inverted_at u net
+
+  pub wrong_well_formed : WellFormed wrong
+  wrong_well_formed = inverted_well_formed u net well
+
+  pub wrong_has_shape : Shape original report wrong
+  wrong_has_shape = record { headers = same.shape.headers; clock = same.shape.clock }
+
+  pub wrong_has_no_loop : HasNoLoop wrong
+  wrong_has_no_loop = still_no_loop u net same.no_loop
+
+  ports_below : AllByRecursion (λ r. AllByRecursion (λ w. w < length net.wires) r.bits) net.ports
+  ports_below = all_places (λ r. AllByRecursion (λ w. w < length net.wires) r.bits) net.ports (λ k r at. named_wires net.wires r.bits (bit_names r.name r.range) (well.ports_right.bits_named k r at))
+
+  -- the wire is no input's
+  input_apart : (h : Header) → h.way ≡ Input → HasPort net h → h.name ≢ q.name
+  input_apart h input found e =
+      let name = ap (λ (x : Header). x.name) found.is in
+      let number = same_number net.ports found.number m found.port q well.ports_right.ports_differ found.at output.there (name ∙ e) in
+      let is : found.port ≡ q = (let both : Some found.port ≡ Some q = sym found.at ∙ (ap (slice_get net.ports) number ∙ output.there) in cc) in
+      let way : is_input q ≡ true = ap is_input (sym is) ∙ (ap (λ (x : Header). is_in x.way) found.is ∙ ap is_in input) in
+      let bits = count_some (λ b. b == u) (flat_map (λ r. r.bits) (filter is_input net.ports)) (bit_within q net.ports u (one_at q net.ports m output.there) way output.own) in
+      let lines = count_some (λ (l : Line). l.0 == u) net.lines line in
+      let below = found_of_all (λ w. w < length net.wires) q.bits (all_of_one (λ r. AllByRecursion (λ w. w < length net.wires) r.bits) net.ports m q ports_below output.there) u output.own in
+      let driven = well.one_driver u below in
+      omega (arith, bits, lines, driven)
+
+  -- the port that is shared is not the clock's
+  own_data : IsOneOf p (data_ports original)
+  own_data = data_port original n p output.at (λ clock.
+      let fits = first.ports_right.clock_fits n clock in
+      let here : IsTrue (is_clock_port p) = ap (λ o. option_map_or is_clock_port o false) (sym output.at) ∙ fits in
+      let input = (and_parts (is_input p) (is_none p.range) here).0 in
+      let out : is_input p ≡ false = ap is_in output.way in
+      both_ways (is_input p) out input)
+
+  module _ (d : IsDriven original marks report net) where
+    abbrev table : List Row
+    table = flipped net u d.power d.tape d.table well unread line d.trace
+
+    rows_are : length table ≡ length d.table
+    rows_are = length-map-range_with_len (λ t. map (flip u (bit_at d.table t)) (range_with_len 0 (length net.wires))) 0 (length d.table)
+
+    -- bits of other ports stay
+    wires_stay : (t w : ℕ) → w < length net.wires → w ≢ u → bit_at table t w ≡ bit_at d.table t w
+    wires_stay t w below other =
+        elim (cases_lt t (length d.table)) [
+          | inl lt ↦ flipped_bit net u d.power d.tape d.table well unread line d.trace t w lt below ∙ flip_other u (bit_at d.table t) w other
+          | inr ge ↦ ap (λ row. slice_index_or row w false) (row_past table t (omega (arith, rows_are, ge))) ∙ sym (ap (λ row. slice_index_or row w false) (row_past d.table t ge))
+        ]
+
+    port_stays : (t : ℕ) (name : List ℕ) → name ≢ q.name → port_value wrong name (bit_at table t) ≡ port_value net name (bit_at d.table t)
+    port_stays t name other =
+        other_named (bit_at table t) (bit_at d.table t) name net.ports
+        (all_both (λ r. r.name ≢ q.name → list_any (λ b. b == u) r.bits ≡ false) (λ r. AllByRecursion (λ w. w < length net.wires) r.bits) (λ r. IsTrue (bytes_eq r.name name) → map (bit_at table t) r.bits ≡ map (bit_at d.table t) r.bits)
+        (λ r none below is.
+        let apart = none (λ e. other (sym ((bytes_eq-Decides r.name name).0 is) ∙ e)) in
+        same_on (bit_at table t) (bit_at d.table t) r.bits (λ w found. wires_stay t w (found_of_all (λ v. v < length net.wires) r.bits below w found) (λ e. both_ways (list_any (λ b. b == u) r.bits) apart (ap (λ k. list_any (λ b. b == k) r.bits) (sym e) ∙ found))))
+        net.ports (bit_of_one u m q net.ports output.there output.own (well.ports_right.one_port u)) ports_below)
+
+    value_stays : (t : ℕ) (x : Port) → IsOneOf x (data_ports original) → is_input x ≡ true → masked_value wrong report x.name (bit_at table t) ≡ masked_value net report x.name (bit_at d.table t)
+    value_stays t x one input =
+        let way = way_is x.way input in
+        elim (cases_Bool (is_shared report x.name)) [
+          | inl is ↦ rw is (same_rows report.order (λ j. port_value wrong (share_name j x.name) (bit_at table t)) (λ j. port_value net (share_name j x.name) (bit_at d.table t))
+              (λ j le. port_stays t (share_name j x.name) (input_apart (record { name = share_name j x.name; way = x.way; range = x.range }) way (share_port original report net same.shape x j one is le))))
+          | inr is ↦ rw is (port_stays t x.name (input_apart (header_of x) way (public_port original report net same.shape x one is)))
+        ]
+
+    drives : Drives original d.secrets report wrong d.streams d.steps table
+    drives = record {
+      as_many = d.drives.as_many;
+      as_long = d.drives.as_long;
+      load = λ t lt. port_stays t (codes "agm_load") (λ e. (let all : codes "agm_load" ≡ share_name i p.name = e ∙ output.named in let r : ◌≡◌ {A = ℕ} 108 115 = cc in absurd (omega (arith, r)))) ∙ d.drives.load t (omega (arith, rows_are, lt));
+      public_state = λ s lt. ap reverse (port_stays s (codes "agm_q_p") (λ e. (let all : codes "agm_q_p" ≡ share_name i p.name = e ∙ output.named in let r : ◌≡◌ {A = ℕ} 113 115 = cc in absurd (omega (arith, r))))) ∙ d.drives.public_state s lt;
+      secret_state = λ s lt. ap reverse
+          (same_rows report.order (λ j. port_value wrong (state_name j) (bit_at table s)) (λ j. port_value net (state_name j) (bit_at d.table s))
+          (λ j le. port_stays s (state_name j) (λ e. (let all : state_name j ≡ share_name i p.name = e ∙ output.named in let r : ◌≡◌ {A = ℕ} 113 115 = cc in absurd (omega (arith, r))))))
+          ∙ d.drives.secret_state s lt;
+      inputs = λ s k t lt less is.
+          filtered (λ x. masked_value wrong report x.name (bit_at table t)) (λ x. masked_value net report x.name (bit_at d.table t)) is_input (data_ports original)
+          (λ a x here input. value_stays t x (one_at x (data_ports original) a here) input)
+          ∙ d.drives.inputs s k t lt less is;
+      is_read = λ s k lt less. let read = d.drives.is_read s k lt less in omega (arith, read, rows_are);
+    }
+
+    abbrev at : ℕ
+    at = reading_cycle report.balance report.period report.latency d.stream d.step
+
+    -- the row of a share
+    share_count : (x : PlainNet) (bit : ℕ → Bool) (j : ℕ) → WellFormed x → x.ports ≡ net.ports → Shape original report x → j ≤ report.order → length (port_value x (share_name j p.name) bit) ≡ width p.range
+    share_count x bit j formed ports shape le =
+        let found = share_port original report x shape p j own_data output.shared le in
+        let name = ap (λ (h : Header). h.name) found.is in
+        let range = ap (λ (h : Header). h.range) found.is in
+        ap (λ (bits : List Bool). length bits) (ap (λ z. port_value x z bit) (sym name) ∙ port_bits x formed found.number found.port found.at bit)
+        ∙ (length-map found.port.bits bit ∙ (bit_count x formed found.number found.port found.at ∙ ap width range))
+
+    pub is_not_same : Same original marks report wrong → ⊥
+    is_not_same claimed =
+        let right = same.outputs d.power d.tape d.table d.secrets d.streams d.steps d.trace d.tells d.drives d.stream d.step d.first d.within.0 d.within.1 d.runs n p output.at output.way in
+        let also = claimed.outputs d.power d.tape table d.secrets d.streams d.steps (flipped_trace net u d.power d.tape d.table well unread line d.trace) d.tells drives d.stream d.step d.first d.within.0 d.within.1 d.runs n p output.at output.way in
+        let f : ℕ → Row = λ j. port_value net (share_name j p.name) (bit_at d.table at) in
+        let g : ℕ → Row = λ j. port_value wrong (share_name j p.name) (bit_at table at) in
+        let rows : recombined_rows report.order f ≡ recombined_rows report.order g =
+        sym (cond-true (is_shared report p.name) (recombined_rows report.order f) (port_value net p.name (bit_at d.table at)) output.shared)
+        ∙ (right ∙ (sym also ∙ cond-true (is_shared report p.name) (recombined_rows report.order g) (port_value wrong p.name (bit_at table at)) output.shared)) in
+        let row : f i ≡ g i =
+        one_row report.order i (width p.range) f g output.index (λ j le. share_count net (bit_at d.table at) j well refl same.shape le) (λ j le. share_count wrong (bit_at table at) j wrong_well_formed refl wrong_has_shape le)
+        (λ j le other. sym (port_stays at (share_name j p.name) (λ e. other (let index = output.index in (names_apart j i p.name p.name (omega (arith, le, few)) (omega (arith, index, few)) (e ∙ output.named)).0))))
+        rows in
+        let bits : map (bit_at d.table at) q.bits ≡ map (bit_at table at) q.bits =
+        sym (port_bits net well m q output.there (bit_at d.table at)) ∙ (ap (λ z. port_value net z (bit_at d.table at)) output.named
+        ∙ (row ∙ (ap (λ z. port_value wrong z (bit_at table at)) (sym output.named) ∙ port_bits wrong wrong_well_formed m q output.there (bit_at table at)))) in
+        let below = found_of_all (λ w. w < length net.wires) q.bits (all_of_one (λ r. AllByRecursion (λ w. w < length net.wires) r.bits) net.ports m q ports_below output.there) u output.own in
+        let read = d.drives.is_read d.stream d.step d.within.0 d.within.1 in
+        let inverse : bit_at table at u ≡ not (bit_at d.table at u) =
+        flipped_bit net u d.power d.tape d.table well unread line d.trace at u read below ∙ cond-true (u == u) (not (bit_at d.table at u)) (bit_at d.table at u) (eq-eqb u u refl) in
+        no_inverse (bit_at d.table at u) (agree_at (bit_at d.table at) (bit_at table at) q.bits bits u output.own ∙ inverse)

@@ -66,26 +66,26 @@ bits_distinct name (Some r) small =
     let numbers = select_apart name (number_at r.msb r.lsb i) (number_at r.msb r.lsb j) (number_small r.msb r.lsb i hm hl li) (number_small r.msb r.lsb j hm hl lj) shown in
     number_apart r.msb r.lsb i j li lj numbers))
 
--- a name that does not begin as those of inner wires do
-abbrev IsOuter : List ℕ → Type 0
-IsOuter name = IsUserName name ⊎ ((c : ℕ) × (rest : List ℕ) × ((c ≢ 112) × (c ≢ 100) × (c ≢ 103)) × (name ≡ codes "agm_" ++ c ∷ rest))
+-- a name that does not begin as those of inner wires or of instances do
+abbrev pub IsOuter : List ℕ → Type 0
+IsOuter name = IsUserName name ⊎ ((c : ℕ) × (rest : List ℕ) × ((c ≢ 112) × (c ≢ 100) × (c ≢ 103) × (c ≢ 117)) × (name ≡ codes "agm_" ++ c ∷ rest))
 
 other_than : (c d : ℕ) → (c < d) ⊎ (d < c) → c ≢ d
 other_than c d (inl lt) e = let same = e in omega arith
 other_than c d (inr lt) e = let same = e in omega arith
 
-with_byte : (c : ℕ) (rest name : List ℕ) → 103 < c → (c < 112) ⊎ (112 < c) → name ≡ codes "agm_" ++ c ∷ rest → IsOuter name
-with_byte c rest name high apart e = inr (c, rest, (other_than c 112 apart, other_than c 100 (inr (omega arith)), other_than c 103 (inr (omega arith))), e)
+with_byte : (c : ℕ) (rest name : List ℕ) → 103 < c → (c < 112) ⊎ (112 < c) → c < 117 → name ≡ codes "agm_" ++ c ∷ rest → IsOuter name
+with_byte c rest name high apart low e = inr (c, rest, (other_than c 112 apart, other_than c 100 (inr (omega arith)), other_than c 103 (inr (omega arith)), other_than c 117 (inl low)), e)
 
 outer_share : (i : ℕ) (name : List ℕ) → IsOfShare i name → IsOuter name
-outer_share i name (small, inl named) = with_byte 115 (decimal i ++ 95 ∷ named.0) name (omega arith) (inr (omega arith)) named.2
-outer_share i name (small, inr is) = with_byte 113 (95 ∷ 115 ∷ decimal i) name (omega arith) (inr (omega arith)) is
+outer_share i name (small, inl named) = with_byte 115 (decimal i ++ 95 ∷ named.0) name (omega arith) (inr (omega arith)) (omega arith) named.2
+outer_share i name (small, inr is) = with_byte 113 (95 ∷ 115 ∷ decimal i) name (omega arith) (inr (omega arith)) (omega arith) is
 
-outer : (name : List ℕ) → IsPortName name → IsOuter name
+pub outer : (name : List ℕ) → IsPortName name → IsOuter name
 outer name (inl user) = inl user
-outer name (inr (inl is)) = with_byte 108 (codes "oad") name (omega arith) (inl (omega arith)) is
-outer name (inr (inr (inl is))) = with_byte 114 [] name (omega arith) (inr (omega arith)) is
-outer name (inr (inr (inr (inl is)))) = with_byte 113 (codes "_p") name (omega arith) (inr (omega arith)) is
+outer name (inr (inl is)) = with_byte 108 (codes "oad") name (omega arith) (inl (omega arith)) (omega arith) is
+outer name (inr (inr (inl is))) = with_byte 114 [] name (omega arith) (inr (omega arith)) (omega arith) is
+outer name (inr (inr (inr (inl is)))) = with_byte 113 (codes "_p") name (omega arith) (inr (omega arith)) (omega arith) is
 outer name (inr (inr (inr (inr shared)))) = outer_share shared.0 name shared.1
 
 -- so is a bit's
@@ -101,7 +101,7 @@ user_select (a ∷ b ∷ c ∷ d ∷ name) tail h rest e =
     let s : d ≡ 95 = cc in
     h name cc
 
-outer_select : (name tail : List ℕ) → IsOuter name → IsOuter (name ++ 91 ∷ tail)
+pub outer_select : (name tail : List ℕ) → IsOuter name → IsOuter (name ++ 91 ∷ tail)
 outer_select name tail (inl user) = inl (user_select name tail user)
 outer_select name tail (inr (c, rest, other, e)) = inr (c, rest ++ 91 ∷ tail, other, ap (λ n. n ++ 91 ∷ tail) e)
 
@@ -127,7 +127,7 @@ select_writable name k small h =
     )
 
 -- what holds of a port's name and of selects on it holds of its bits' names
-each_bit : (P : List ℕ → Type 0) (name : List ℕ) (range : Option Range) → IsSmallRange range → P name → ((k : ℕ) → k < 2 ^ 64 → P (select_name name k)) → AllByRecursion P (bit_names name range)
+pub each_bit : (P : List ℕ → Type 0) (name : List ℕ) (range : Option Range) → IsSmallRange range → P name → ((k : ℕ) → k < 2 ^ 64 → P (select_name name k)) → AllByRecursion P (bit_names name range)
 each_bit P name None small h g = (h, tt)
 each_bit P name (Some r) small h g =
     let ns = bit_names name (Some r) in

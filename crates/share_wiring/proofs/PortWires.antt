@@ -5,7 +5,7 @@ use Rattle.std.specs.Str.{bytes_eq}
 use Rattle.std.proofs.lemmas.List.{length-map}
 use Rattle.std.proofs.lemmas.List.Sums.{sum_by-append}
 use Rattle.std.proofs.lemmas.List.Edits.{insert_end}
-use Rattle.std.proofs.lemmas.Bool.{cases_Bool, cases_eq, cases_lt, ne_eqb, lt-ltb}
+use Rattle.std.proofs.lemmas.Bool.{cases_Bool, cases_lt, ne_eqb, lt-ltb}
 use Rattle.agm_net.specs.Plain.{bit_names, is_input}
 use Rattle.agm_net.specs.declared.port.Port.{Port}
 use Rattle.agm_net.specs.declared.port.Range.{Range}
@@ -14,12 +14,12 @@ use Rattle.agm_net.specs.declared.port.Way.TheVariants.{Input as In, Output}
 use Rattle.share_wiring.specs.Wiring.{Wiring, IsRun, Keeps, names, source_at}
 use Rattle.share_wiring.specs.Own.{bit_wires, input_wires, copy_wires}
 use Rattle.share_wiring.specs.Adds.{random_bits, AddsRegisters}
-use Rattle.share_wiring.specs.Built.{source_fits, AreDistinct, IsNew, HasItsBits, uses, input_uses, is_stored, clock_port, IsAmong, IsInnerOrBit, bits_names, IsBuilt, IsNewPort, MayBeGiven}
+use Rattle.share_wiring.specs.Built.{source_fits, AreDistinct, IsNew, HasItsBits, uses, input_uses, is_stored, clock_port, IsAmong, IsInnerOrBit, IsMadePort, bits_names, IsBuilt, IsNewPort, MayBeGiven}
 use Rattle.share_wiring.specs.declared.gate.Source.{Source}
 use Rattle.share_wiring.specs.declared.gate.Source.TheVariants.{Input, Equation}
 use Rattle.share_wiring.specs.declared.gate.Gate.TheVariants.{Same}
 use Rattle.share_wiring.specs.declared.gate.Wire.{Wire}
-use Rattle.share_wiring.proofs.Lists.{all_from, count_yes, count_no}
+use Rattle.share_wiring.proofs.Lists.{all_from, count_yes, count_no, row_before, row_once}
 use Rattle.share_wiring.proofs.Grown.{Fit, none, built_more, named_more, names_append, uses_more, source_front, source_back}
 use Rattle.share_wiring.proofs.Runs.{registers_more, run_front, run_back}
 use Rattle.share_wiring.proofs.OwnWires.{length-upto, get-upto, map-upto, all_upto}
@@ -65,19 +65,6 @@ found_new xs (n ∷ ns) =
     ap (λ ys. map (slice_get ys) (range_with_len (length xs + 1) (length ns))) longer ∙ (ap (λ k. map (slice_get ((xs ++ n ∷ []) ++ ns)) (range_with_len k (length ns))) count ∙ rest) in
     ap₂ (λ y ys. y ∷ ys) (found_at xs n ns) tail
 
--- how often a number is in a row
-row_before : (a n w : ℕ) → w < a → count_by (λ b. b == w) (range_with_len a n) ≡ 0
-row_before a zero w lt = refl
-row_before a (suc n) w lt = count_no (λ b. b == w) a (range_with_len (a + 1) n) (ne_eqb a w (λ e. (let same = e in omega arith))) ∙ row_before (a + 1) n w (omega arith)
-
-row_once : (a n w : ℕ) → count_by (λ b. b == w) (range_with_len a n) ≤ 1
-row_once a zero w = omega arith
-row_once a (suc n) w =
-    elim (cases_eq a w) [
-      | inl same ↦ (let one = count_yes (λ b. b == w) a (range_with_len (a + 1) n) (eq-eqb a w same) in let rest = row_before (a + 1) n w (omega arith) in omega (arith, one, rest))
-      | inr other ↦ (let no_more = count_no (λ b. b == w) a (range_with_len (a + 1) n) (ne_eqb a w other) in let rest = row_once (a + 1) n w in omega (arith, no_more, rest))
-    ]
-
 -- it is there where the wire is a new input
 row_input : (ns : List Wire) (a k : ℕ) → AllByRecursion (λ wire. input_uses wire.source ≡ 1) ns → count_by (λ b. b == a + k) (range_with_len a (length ns)) ≡ input_uses (source_at ns k)
 row_input [] a k h = refl
@@ -114,6 +101,12 @@ pub among_cases : (xs ys : List (List ℕ)) (x : List ℕ) → IsAmong (xs ++ ys
 among_cases [] ys x h = inr h
 among_cases (y ∷ xs) ys x (inl here) = inl (inl here)
 among_cases (y ∷ xs) ys x (inr there) = elim (among_cases xs ys x there) [ inl left ↦ inl (inr left) | inr right ↦ inr right ]
+
+-- what holds of each name holds of one among them
+pub among_all : (P : List ℕ → Type 0) (ns : List (List ℕ)) (name : List ℕ) → AllByRecursion P ns → IsAmong ns name → P name
+among_all P [] name h among = absurd among
+among_all P (n ∷ ns) name h (inl is) = subst P is h.0
+among_all P (n ∷ ns) name h (inr among) = among_all P ns name h.1 among
 
 -- each of some names is among them
 pub each_among : (xs : List (List ℕ)) → AllByRecursion (IsAmong xs) xs
@@ -240,6 +233,9 @@ module _ (net : Wiring) (built : IsBuilt net) (name : List ℕ) (range : Option 
       subst (λ all. AllByRecursion (HasItsBits all) (insert net.ports place (port way))) (sym all)
       (insert_all (port way) (HasItsBits (names net.wires ++ ns)) net.ports place own (named_more (names net.wires) ns net.ports built.bits_named))
 
+  made : (way : Way) → AllByRecursion IsMadePort (insert net.ports place (port way))
+  made way = insert_all (port way) IsMadePort net.ports place (record { port_name = inr new.port_name; written = new.written; small = new.small }) built.ports_made
+
   -- the new wires have the names of the new port's bits
   own_names : (way : Way) (source : ℕ → Source) → AllByRecursion (IsInnerOrBit (insert net.ports place (port way))) (names (bit_wires (bit_names name range) source))
   own_names way source = rw (bit_wire_names (bit_names name range) source) (new_among (port way) net.ports place)
@@ -286,7 +282,7 @@ module _ (net : Wiring) (built : IsBuilt net) (name : List ℕ) (range : Option 
       built_more net (input_wires (bit_names name range)) (insert net.ports place (port In)) built (port_fits net name range (λ i. Input) new (λ i lt. refl))
       (still_among (port In) net.ports place) (own_names In (λ i. Input))
       (insert_first (port In) net.ports place (clock_port ∷ []) some (some_ports net.ports built.clocked) built.clocked)
-      (insert_distinct (port In) net.ports place new.new_port built.ports_differ)
+      (made In) (insert_distinct (port In) net.ports place new.new_port built.ports_differ)
       (named In (λ i. Input)) (one In) input_given given
 
   pub out_built : (bits : List ℕ) → AllByRecursion (λ b. b < length net.wires) bits → length bits ≡ length (bit_names name range) → bytes_eq name (codes "agm_r") ≡ false
@@ -299,7 +295,7 @@ module _ (net : Wiring) (built : IsBuilt net) (name : List ℕ) (range : Option 
       (port_fits net name range source new (λ i lt. lt-ltb (get_or bits i 0) N (at_place (λ b. b < N) bits i inside (omega (arith, many, lt)))))
       (still_among (port Output) net.ports place) (own_names Output source)
       (insert_first (port Output) net.ports place (clock_port ∷ []) some (some_ports net.ports built.clocked) built.clocked)
-      (insert_distinct (port Output) net.ports place new.new_port built.ports_differ)
+      (made Output) (insert_distinct (port Output) net.ports place new.new_port built.ports_differ)
       (named Output source) (one Output)
       (λ w. ap (λ ps. uses ps w) (insert_output (port Output) net.ports place refl) ∙ (built.inputs w ∙ sym (uses_more net.wires (copy_wires ns bits) w (bit_wire_sources (λ s. input_uses s ≡ 0) ns source (λ i lt. refl)))))
       (subst (λ bs. net.given ≤ length bs) (sym (insert_random (port Output) net.ports place other)) built.given)

@@ -1,7 +1,7 @@
 -- The traces of a net with more wires, and what stays.
-use Rattle.std.proofs.Common.{◌≡◌, ◌≢◌, ◌<◌, ◌≤◌, ◌+◌, ◌*◌, ◌++◌, ◌⊎◌, ℕ, zero, suc, Bool, List, [], length, take, get_or, refl, sym, ap, ap₂, subst, ◌∙◌, length-append, arith}
+use Rattle.std.proofs.Common.{◌≡◌, ◌≢◌, ◌<◌, ◌≤◌, ◌+◌, ◌*◌, ◌++◌, ◌⊎◌, ℕ, zero, suc, Bool, List, [], length, take, drop, get_or, append_assoc, refl, sym, ap, ap₂, subst, ◌∙◌, length-append, arith}
 use Rattle.std.specs.List.{AllByRecursion}
-use Rattle.std.proofs.lemmas.List.{get_or_append_left, get_or-append-add, length-map}
+use Rattle.std.proofs.lemmas.List.{take-append-drop, get_or_append_left, get_or-append-add, length-map}
 use Rattle.std.proofs.Math.Seq.{take-append_seam, take-length}
 use Rattle.agm_net.specs.Label.{IsPublic, IsOfShare}
 use Rattle.share_wiring.specs.Wiring.{Wiring, IsRun, Keeps, source_at, name_at, names, stored_at, stored_below, MayBeShare, IsPublicWire}
@@ -76,6 +76,28 @@ extends_same old new e g =
       gadgets = g;
       shares = λ n i w h. subst (λ ws. MayBeShare ws n i w) (sym e) h;
       publics = λ w h. subst (λ ws. IsPublicWire ws w) (sym e) h;
+    }
+
+-- the later wires are the earlier ones and more
+grown : (old new : List Wire) → take (length old) new ≡ old → new ≡ old ++ drop (length old) new
+grown old new e = sym (take-append-drop (length old) new) ∙ ap (λ s. s ++ drop (length old) new) e
+
+-- what stays, stays
+pub extends_trans : (a b c : Wiring) → Extends a b → Extends b c → Extends a c
+extends_trans a b c e f =
+    let p = grown a.wires b.wires e.wires in
+    let q = grown b.wires c.wires f.wires in
+    let r : c.wires ≡ a.wires ++ (drop (length a.wires) b.wires ++ drop (length b.wires) c.wires) = q ∙ (ap (λ s. s ++ drop (length b.wires) c.wires) p ∙ append_assoc a.wires (drop (length a.wires) b.wires) (drop (length b.wires) c.wires)) in
+    let g = e.gadgets in
+    let h = f.gadgets in
+    let i = e.count in
+    let j = f.count in
+    record {
+      wires = ap (λ s. take (length a.wires) s) r ∙ take-append_seam a.wires (drop (length a.wires) b.wires ++ drop (length b.wires) c.wires);
+      count = omega arith;
+      gadgets = omega arith;
+      shares = λ n i w s. f.shares n i w (e.shares n i w s);
+      publics = λ w s. f.publics w (e.publics w s);
     }
 
 one_stored : (w : ℕ) (source : Source) → length (stored_at w source) ≡ is_stored source

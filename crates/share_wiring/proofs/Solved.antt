@@ -1,46 +1,11 @@
 -- Equations in order, each for a new wire, have a solution.
-use Rattle.std.proofs.Common.{◌≡◌, ◌<◌, ◌==◌, ℕ, Bool, true, false, ◌&&◌, ◌||◌, cond, List, [], ◌∷◌, IsTrue, nat_lt, refl, sym, ap, ◌∙◌, inl, inr, eq-eqb, ltb-true}
+use Rattle.std.proofs.Common.{◌≡◌, ◌<◌, ℕ, Bool, true, false, ◌&&◌, ◌||◌, List, [], ◌∷◌, IsTrue, nat_lt, sym, ap, ◌∙◌, inl, inr, ltb-true}
 use Rattle.std.specs.List.{AllByRecursion}
-use Rattle.std.proofs.lemmas.Bool.{eqb-true, or_cases, or_left, or_right, and_parts, both_ways, false_from_ne_true}
-use Rattle.agm_net.specs.Formula.{Formula, f_zero, f_one, f_wire, f_not, f_and, f_or, f_xor, f_mux, value, stands, reads_below}
+use Rattle.std.proofs.lemmas.Bool.{eqb-true, or_cases, and_parts}
+use Rattle.agm_net.specs.Formula.{Formula, f_zero, f_one, f_wire, f_not, f_and, f_or, f_xor, f_mux, stands, reads_below}
 use Rattle.agm_net.specs.Plain.{Line}
 use Rattle.agm_net.specs.Trace.{Holds}
-use Rattle.share_wiring.proofs.Loops.{IsFresh}
 use Rattle.share_wiring.proofs.Unique.{same_value}
-
--- a row with another bit for one wire
-abbrev pub put_bit : (ℕ → Bool) → ℕ → Bool → ℕ → Bool
-put_bit bit v x w = cond (w == v) x (bit w)
-
--- the bits that equations give, one after another
-abbrev pub solved : (ℕ → Bool) → List Line → ℕ → Bool
-solved bit [] = bit
-solved bit (l ∷ ls) = solved (put_bit bit l.0 (value bit l.1)) ls
-
--- a known wire keeps its bit when a new one is put
-known_stays : (known bit : ℕ → Bool) (v w : ℕ) (x : Bool) → known v ≡ false → IsTrue (known w) → put_bit bit v x w ≡ bit w
-known_stays known bit v w x new old =
-    let apart : (w == v) ≡ false = false_from_ne_true (w == v) (λ same. both_ways (known v) new (ap known (sym (eqb-true w v same)) ∙ old)) in
-    rw apart refl
-
--- known wires keep their bits
-pub known_kept : (known bit : ℕ → Bool) (lines : List Line) → IsFresh known lines → (w : ℕ) → IsTrue (known w) → solved bit lines w ≡ bit w
-known_kept known bit [] f w h = refl
-known_kept known bit (l ∷ ls) f w h =
-    known_kept (λ v. (v == l.0) || known v) (put_bit bit l.0 (value bit l.1)) ls f.2 w (or_right (w == l.0) (known w) h)
-    ∙ known_stays known bit l.0 w (value bit l.1) f.0 h
-
--- the equations hold of what they give
-pub solution : (known bit : ℕ → Bool) (lines : List Line) → IsFresh known lines → Holds (solved bit lines) lines
-solution known bit [] f = tt
-solution known bit (l ∷ ls) f =
-    let x = value bit l.1 in
-    let self : IsTrue (l.0 == l.0) = eq-eqb l.0 l.0 refl in
-    let put : put_bit bit l.0 x l.0 ≡ x = (rw self refl) in
-    let more = λ (v : ℕ). (v == l.0) || known v in
-    let here : solved (put_bit bit l.0 x) ls l.0 ≡ x = known_kept more (put_bit bit l.0 x) ls f.2 l.0 (or_left (l.0 == l.0) (known l.0) self) ∙ put in
-    let same : value (solved bit (l ∷ ls)) l.1 ≡ x = same_value (solved bit (l ∷ ls)) bit l.1 (λ w s. known_kept known bit (l ∷ ls) f w (f.1 w s)) in
-    (here ∙ sym same, solution more (put_bit bit l.0 x) ls f.2)
 
 -- a wire that stands in a formula over the wires below n is below n
 pub reads_are_below : (n : ℕ) (f : Formula) → IsTrue (reads_below n f) → (w : ℕ) → IsTrue (stands w f) → w < n

@@ -14,8 +14,7 @@ use Rattle.share_wiring.specs.Same.{TellsSecrets}
 use Rattle.share_wiring.specs.Worked.{port, toggle, toggle_marks, toggle_report}
 use Rattle.share_wiring.specs.declared.report.Mode.TheVariants.{Naive}
 use Rattle.share_wiring.specs.declared.report.Balance.TheVariants.{Pipe}
-use Rattle.share_wiring.proofs.Lists.{all_of_one}
-use Rattle.share_wiring.proofs.ShareWires.{times-range-le}
+use Rattle.share_wiring.proofs.Lists.{all_of_one, row_once}
 use Rattle.share_wiring.proofs.Loops.{no_loop}
 use Rattle.share_wiring.proofs.Decide.{each_passes, names_differ, they_are_fresh}
 
@@ -29,7 +28,7 @@ is_net = record {
   ports_right = record {
     ports_differ = names_differ (map (λ p. p.name) toggle.ports) refl;
     bits_named = λ n p at. all_of_one IsNamed toggle.ports n p (refl, (refl, (refl, (refl, tt)))) at;
-    one_port = λ w. times-range-le w 0 4;
+    one_port = λ w. row_once 0 4 w;
     clock_fits = λ c e. (let is : 0 ≡ c = cc in subst (λ k. IsTrue (option_map_or is_clock_port (slice_get toggle.ports k) false)) is refl);
   };
   wires_differ = names_differ toggle.wires refl;

@@ -80,26 +80,6 @@ is_stored _ = 0
 abbrev pub clock_port : Port
 clock_port = record { name = codes "agm_clk"; way = In; range = None; bits = 0 ∷ [] }
 
--- What a builder keeps: the first port is the clock. Each equation reads earlier wires, and each register wires of the net. The names
--- of wires differ, none is that of a wire to come or of a gadget to come, and all can be written. The names of ports differ, each port
--- has the bits of its name and range, and no wire is a bit of two. A wire is an input where it is an input port's bit. Each wire has
--- the name of an inner wire, or of a bit of a port.
--- There are no more gadgets than numbers in names, and no more bits of `agm_r` were given than it has.
-pub record IsBuilt (net : Wiring) : Type 0 where
-  pub clocked : take 1 net.ports ≡ clock_port ∷ []
-  pub ordered : (w : ℕ) → w < length net.wires → IsTrue (source_fits (source_at net.wires w) w (length net.wires))
-  pub distinct : AreDistinct (names net.wires)
-  pub free : AllByRecursion (LeavesFree (length net.wires)) (names net.wires)
-  pub begun : AllByRecursion (IsBegun net.gadgets) (names net.wires)
-  pub writable : AllByRecursion IsWritable (names net.wires)
-  pub named : AllByRecursion (IsInnerOrBit net.ports) (names net.wires)
-  pub ports_differ : AreDistinct (map (λ p. p.name) net.ports)
-  pub bits_named : AllByRecursion (HasItsBits (names net.wires)) net.ports
-  pub one_port : (w : ℕ) → uses net.ports w ≤ 1
-  pub inputs : (w : ℕ) → uses (filter is_input net.ports) w ≡ input_uses (source_at net.wires w)
-  pub few : net.gadgets ≤ 2 ^ 32
-  pub given : net.given ≤ length (random_bits net.ports)
-
 -- A name of a port that a masked net may have: the original's, or one that has a meaning there.
 abbrev pub IsPortName : List ℕ → Type 0
 IsPortName name =
@@ -112,6 +92,33 @@ IsPortName name =
 abbrev pub IsSmallRange : Option Range → Type 0
 IsSmallRange None = Unit {0}
 IsSmallRange (Some r) = (r.msb ≤ 65535) × (r.lsb ≤ 65535)
+
+-- What each port has: it is the clock's, or its name is a port's; the name can be written, and the numbers of its range are small.
+pub record IsMadePort (p : Port) : Type 0 where
+  pub port_name : (p.name ≡ codes "agm_clk") ⊎ IsPortName p.name
+  pub written : IsWritable p.name
+  pub small : IsSmallRange p.range
+
+-- What a builder keeps: the first port is the clock. Each equation reads earlier wires, and each register wires of the net. The names
+-- of wires differ, none is that of a wire to come or of a gadget to come, and all can be written. The names of ports differ, each port
+-- has the bits of its name and range, and no wire is a bit of two. A wire is an input where it is an input port's bit. Each wire has
+-- the name of an inner wire, or of a bit of a port. Ports have names of ports, and small ranges.
+-- There are no more gadgets than numbers in names, and no more bits of `agm_r` were given than it has.
+pub record IsBuilt (net : Wiring) : Type 0 where
+  pub clocked : take 1 net.ports ≡ clock_port ∷ []
+  pub ordered : (w : ℕ) → w < length net.wires → IsTrue (source_fits (source_at net.wires w) w (length net.wires))
+  pub distinct : AreDistinct (names net.wires)
+  pub free : AllByRecursion (LeavesFree (length net.wires)) (names net.wires)
+  pub begun : AllByRecursion (IsBegun net.gadgets) (names net.wires)
+  pub writable : AllByRecursion IsWritable (names net.wires)
+  pub named : AllByRecursion (IsInnerOrBit net.ports) (names net.wires)
+  pub ports_made : AllByRecursion IsMadePort net.ports
+  pub ports_differ : AreDistinct (map (λ p. p.name) net.ports)
+  pub bits_named : AllByRecursion (HasItsBits (names net.wires)) net.ports
+  pub one_port : (w : ℕ) → uses net.ports w ≤ 1
+  pub inputs : (w : ℕ) → uses (filter is_input net.ports) w ≡ input_uses (source_at net.wires w)
+  pub few : net.gadgets ≤ 2 ^ 32
+  pub given : net.given ≤ length (random_bits net.ports)
 
 -- what a new port wants: no port has its name, no wire has the name of one of its bits, and the name is a port's and can be written
 pub record IsNewPort (net : Wiring) (name : List ℕ) (range : Option Range) : Type 0 where

@@ -2,12 +2,14 @@ pub mod Recombine
 pub mod Shape
 pub mod Schedule
 pub mod Same
+pub mod Driven
 pub mod ReportOf
-pub mod Masked
 pub mod Inverted
 pub mod Worked
+pub mod WorkedWire
 pub mod Gates
 pub mod Wiring
 pub mod Own
 pub mod Adds
 pub mod Built
+pub mod Cells

@@ -6,6 +6,8 @@ ghost use Rattle.std.specs.Str.{bytes_eq};
 ghost use Rattle.agm_net.specs.Formula.{formula_of, value, reads_below};
 ghost use Rattle.agm_net.specs.Plain.{bit_names};
 ghost use Rattle.agm_net.specs.View.{plain_of};
+ghost use Rattle.agm_net.specs.PlainForm.{IsPlain};
+ghost use Rattle.agm_net.specs.Simple.{IsCell, IsSmallNet};
 ghost use Rattle.agm_net.specs.Loop.{HasNoLoop};
 ghost use Rattle.agm_net.specs.Trace.{Row, IsTrace, bit_at};
 ghost use Rattle.agm_net.specs.Label.{gadget_name};
@@ -13,6 +15,7 @@ ghost use Rattle.share_wiring.specs.Gates.{IsGate, gate_of, gate_formula};
 ghost use Rattle.share_wiring.specs.Wiring.{Wiring, IsSharing, IsPublicWire, IsRun, Keeps, names as names_of, share, net_of};
 ghost use Rattle.share_wiring.specs.Own.{source_of, step_registers, input_wires, copy_wires};
 ghost use Rattle.share_wiring.specs.Adds.{Extends, Stays, AddsRegisters, AddsFact, Xors, Inverts, Masks, Holds, Copies, Delays, random_bits, given_bits};
+ghost use Rattle.share_wiring.specs.Cells.{IsCellSource, AreCells, AddsCells};
 ghost use Rattle.share_wiring.specs.Built.{IsBuilt, ReadsPublic, IsNewPart, IsNewPort, MayBeGiven, IsNew, clock_port, source_fits, input_uses, is_stored};
 
 use crate::bits::{push_input_port, push_output_port};
@@ -109,6 +112,7 @@ impl Builder {
         ensures stays { Stays self.old self.new }
         ensures shares { IfOk result (λ z. IsSharing self.new.wires S z.shares) }
         ensures adds { IfOk result (λ z. AddsFact self.old self.new (λ cycles bits. (i : ℕ) → i < S → Keeps cycles bits (share z.shares i) (source_of step i (share x.now.shares i) (share y.now.shares i)))) }
+        ensures cells { OnOk result (AddsCells self.old self.new) }
         ensures registers { OnOk result (AddsRegisters (step_registers step S) self.old self.new) }
         ensures err { OnErr result (self.new ≡ self.old) }
     {
@@ -132,6 +136,7 @@ impl Builder {
         ensures made { IfOk result (λ bits. self.new ≡ record self.old { ports = self.old.ports ++ (record { name = name.now; way = Way.Input; range = range; bits = bits }) ∷ []; wires = self.old.wires ++ input_wires (bit_names name.now range) }) }
         ensures extends { Extends self.old self.new }
         ensures adds { OnOk result (AddsFact self.old self.new (λ cycles bits. Unit {0})) }
+        ensures cells { OnOk result (AddsCells self.old self.new) }
         ensures registers { OnOk result (AddsRegisters 0 self.old self.new) }
         ensures err { OnErr result (self.new ≡ self.old) }
     {
@@ -171,6 +176,7 @@ impl Builder {
         ensures made { OnOk result (self.new ≡ record self.old { ports = insert self.old.ports place (record { name = name.now; way = Way.Output; range = range; bits = range_with_len (length self.old.wires) (length (bit_names name.now range)) }); wires = self.old.wires ++ copy_wires (bit_names name.now range) bits.now }) }
         ensures extends { Extends self.old self.new }
         ensures value { OnOk result (AddsFact self.old self.new (λ cycles bit. (t : ℕ) → t < cycles → (i : ℕ) → i < length bits.now → bit t (length self.old.wires + i) ≡ bit t (slice_index_or bits.now i 0))) }
+        ensures cells { OnOk result (AddsCells self.old self.new) }
         ensures registers { OnOk result (AddsRegisters 0 self.old self.new) }
         ensures err { OnErr result (self.new ≡ self.old) }
     {
@@ -200,6 +206,7 @@ impl Builder {
         ensures stays { Stays self.old self.new }
         ensures shares { IfOk result (λ z. IsSharing self.new.wires S z.shares) }
         ensures value { IfOk result (λ z. AddsFact self.old self.new (λ cycles bits. Holds S cycles bits wire z.shares)) }
+        ensures cells { OnOk result (AddsCells self.old self.new) }
         ensures registers { OnOk result (AddsRegisters 0 self.old self.new) }
         ensures err { OnErr result (self.new ≡ self.old) }
     {
@@ -216,6 +223,7 @@ impl Builder {
         ensures stays { Stays self.old self.new }
         ensures shares { IfOk result (λ z. IsSharing self.new.wires S z.shares) }
         ensures value { IfOk result (λ z. AddsFact self.old self.new (λ cycles bits. Inverts S cycles bits x.now.shares z.shares)) }
+        ensures cells { OnOk result (AddsCells self.old self.new) }
         ensures registers { OnOk result (AddsRegisters 0 self.old self.new) }
         ensures err { OnErr result (self.new ≡ self.old) }
     {
@@ -236,6 +244,7 @@ impl Builder {
         ensures stays { Stays self.old self.new }
         ensures shares { IfOk result (λ z. IsSharing self.new.wires S z.shares) }
         ensures value { IfOk result (λ z. AddsFact self.old self.new (λ cycles bits. Xors S cycles bits x.now.shares y.now.shares z.shares)) }
+        ensures cells { OnOk result (AddsCells self.old self.new) }
         ensures registers { OnOk result (AddsRegisters 0 self.old self.new) }
         ensures err { OnErr result (self.new ≡ self.old) }
     {
@@ -256,6 +265,7 @@ impl Builder {
         ensures stays { Stays self.old self.new }
         ensures shares { IfOk result (λ z. IsSharing self.new.wires S z.shares) }
         ensures value { IfOk result (λ z. AddsFact self.old self.new (λ cycles bits. Masks S cycles bits wire x.now.shares z.shares)) }
+        ensures cells { OnOk result (AddsCells self.old self.new) }
         ensures registers { OnOk result (AddsRegisters 0 self.old self.new) }
         ensures err { OnErr result (self.new ≡ self.old) }
     {
@@ -271,6 +281,7 @@ impl Builder {
         ensures stays { Stays self.old self.new }
         ensures shares { IfOk result (λ z. IsSharing self.new.wires S z.shares) }
         ensures value { IfOk result (λ z. AddsFact self.old self.new (λ cycles bits. Delays S cycles bits x.now.shares z.shares)) }
+        ensures cells { OnOk result (AddsCells self.old self.new) }
         ensures registers { OnOk result (AddsRegisters S self.old self.new) }
         ensures err { OnErr result (self.new ≡ self.old) }
     {
@@ -285,6 +296,7 @@ impl Builder {
         ensures stays { Stays self.old self.new }
         ensures shares { IfOk result (λ z. IsSharing self.new.wires S z.shares) }
         ensures value { IfOk result (λ z. AddsFact self.old self.new (λ cycles bits. Copies S cycles bits x.now.shares z.shares)) }
+        ensures cells { OnOk result (AddsCells self.old self.new) }
         ensures registers { OnOk result (AddsRegisters 0 self.old self.new) }
         ensures err { OnErr result (self.new ≡ self.old) }
     {
@@ -314,6 +326,7 @@ impl Builder {
         ensures wire { IfOk result (λ w. w ≡ length self.old.wires) }
         ensures made { OnOk result (self.new ≡ record self.old { wires = self.old.wires ++ (record { name = name.now; source = source }) ∷ [] }) }
         ensures adds { IfOk result (λ w. AddsFact self.old self.new (λ cycles bits. Keeps cycles bits w source)) }
+        ensures cells { OnOk result (IsCellSource source → AddsCells self.old self.new) }
         ensures registers { OnOk result (AddsRegisters (is_stored source) self.old self.new) }
         ensures err { OnErr result (self.new ≡ self.old) }
     {
@@ -334,6 +347,7 @@ impl Builder {
         ensures wire { IfOk result (λ w. w ≡ length self.old.wires) }
         ensures made { OnOk result (self.new.wires ≡ self.old.wires ++ (record { name = name.now; source = Source.Equation (gate_of (formula_of expr)) }) ∷ []) }
         ensures value { IfOk result (λ w. AddsFact self.old self.new (λ cycles bits. (t : ℕ) → t < cycles → bits t w ≡ value (bits t) (formula_of expr))) }
+        ensures cells { OnOk result (IsCell (formula_of expr) → AddsCells self.old self.new) }
         ensures registers { OnOk result (AddsRegisters 0 self.old self.new) }
         ensures err { OnErr result (self.new ≡ self.old) }
     {
@@ -352,6 +366,7 @@ impl Builder {
         ensures wire { IfOk result (λ w. w ≡ length self.old.wires) }
         ensures made { OnOk result (self.new.wires ≡ self.old.wires ++ (record { name = name.now; source = Source.Register next clock }) ∷ []) }
         ensures value { IfOk result (λ w. AddsFact self.old self.new (λ cycles bits. (t : ℕ) → t + 1 < cycles → bits (t + 1) w ≡ bits t next)) }
+        ensures cells { OnOk result (AddsCells self.old self.new) }
         ensures registers { OnOk result (AddsRegisters 1 self.old self.new) }
         ensures err { OnErr result (self.new ≡ self.old) }
     {
@@ -363,6 +378,8 @@ impl Builder {
     pub fn finish(self) -> Result<Net, Memory>
         ensures net { IfOk result (λ net. plain_of net ≡ net_of self) }
         ensures no_loop { IfOk result (λ net. HasNoLoop (plain_of net)) }
+        ensures plain { IfOk result (λ net. IsPlain (plain_of net)) }
+        ensures small { IfOk result (λ net. AreCells self.wires → IsSmallNet (plain_of net)) }
         ensures runs { IfOk result (λ net. (power : Row) (tape table : List Row) → IsTrace (plain_of net) power tape table → IsRun self.wires (length table) (bit_at table)) }
     {
         let Builder {

@@ -1,48 +1,29 @@
-ghost use Rattle.std.specs.Prelude.{◌≡◌, ◌≤◌, ◌==◌, ◌∷◌, ℕ, List, [], length, filter};
-ghost use Rattle.std.specs.List.{AllByRecursion, list_any, flat_map};
-ghost use Rattle.agm_net.specs.Plain.{PlainNet, is_input, input_bits};
+//! Laws on the definitions.
+
+ghost use Rattle.std.specs.Prelude.{◌≡◌, ℕ, List, [], length, None, IsTrue};
+ghost use Rattle.std.specs.List.{AllByRecursion};
+ghost use Rattle.agm_net.specs.Loop.{HasNoLoop};
+ghost use Rattle.agm_net.specs.Plain.{PlainNet, input_bits};
 ghost use Rattle.agm_net.specs.Trace.{Row, IsTrace};
 ghost use Rattle.agm_net.specs.WellFormed.{WellFormed};
-ghost use Rattle.agm_net.specs.Simple.{InOrder, IsSimple};
-ghost use Rattle.share_wiring.specs.Masked.{masked_net, simple_report};
-ghost use Rattle.share_wiring.specs.Schedule.{Drives};
-ghost use Rattle.share_wiring.specs.Same.{Same};
-ghost use Rattle.share_wiring.specs.ReportOf.{ReportOf};
+ghost use Rattle.share_wiring.specs.Driven.{IsStateless, IsStimulus};
+ghost use Rattle.share_wiring.specs.Recombine.{is_shared};
+ghost use Rattle.share_wiring.specs.Schedule.{Stream, Drives};
+ghost use Rattle.share_wiring.specs.Shape.{Shape};
+ghost use Rattle.share_wiring.specs.declared.report.Report.{Report};
 
-use crate::{Balance, Mode};
-use agm_net::Mark;
-
-/// A law: the masked net of a simple net computes the original, at every order from 1 to 7.
-pub fn masked_is_same()
-    ensures { (d : ℕ) (net : PlainNet) (marks : List Mark) → 1 ≤ d → d ≤ 7 → WellFormed net → IsSimple net marks →
-        Same net marks (simple_report d net) (masked_net d net) }
+/// A law: a net without a loop has a trace for each power-up contents and each tape of the right width.
+pub fn has_trace()
+    ensures { (net : PlainNet) (power : Row) (tape : List Row) → WellFormed net → HasNoLoop net → length power ≡ length net.registers →
+        AllByRecursion (λ row. length row ≡ length (input_bits net)) tape → (table : List Row) × IsTrace net power tape table }
 {}
 
-/// A law: the report of that masked net tells its order, that it has no gadget and no latency, and that every port is shared.
-pub fn masked_report()
-    ensures { (d : ℕ) (net : PlainNet) (marks : List Mark) → 1 ≤ d → WellFormed net → IsSimple net marks →
-        ReportOf net marks d Mode.Naive Balance.Pipe 0 0 (simple_report d net) }
-{}
-
-/// A law: a net without registers whose equations stand in order has a trace for each tape of the right width.
-pub fn ordered_has_trace()
-    ensures { (net : PlainNet) (power : Row) (tape : List Row) → WellFormed net → net.registers ≡ [] →
-        InOrder (λ w. list_any (λ b. b == w) (flat_map (λ p. p.bits) (filter is_input net.ports))) net.lines →
-        length power ≡ length net.registers → AllByRecursion (λ row. length row ≡ length (input_bits net)) tape →
-        (table : List Row) × IsTrace net power tape table }
-{}
-
-/// A law: so has the masked net of a simple net.
-pub fn simple_has_trace()
-    ensures { (d : ℕ) (net : PlainNet) (marks : List Mark) (tape : List Row) → d ≤ 7 → WellFormed net → IsSimple net marks →
-        AllByRecursion (λ row. length row ≡ length (input_bits (masked_net d net))) tape →
-        (table : List Row) × IsTrace (masked_net d net) [] tape table }
-{}
-
-/// A law: each list of inputs drives it in some trace, in one stream with one step for each row of inputs.
-pub fn simple_is_driven()
-    ensures { (d : ℕ) (net : PlainNet) (marks : List Mark) (inputs : List Row) → d ≤ 7 → WellFormed net → IsSimple net marks →
-        AllByRecursion (λ row. length row ≡ length (input_bits net)) inputs →
-        (tape : List Row) × (table : List Row) × IsTrace (masked_net d net) [] tape table ×
-        Drives net [] (simple_report d net) (masked_net d net) (record { initial = []; steps = inputs } ∷ []) (length inputs) table }
+/// A law: every stimulus drives each net without a loop that has the ports of a masked net, whatever its power-up contents, where the
+/// original has neither a clock nor registers and all its ports are shared.
+pub fn is_driven()
+    ensures { (original : PlainNet) (report : Report) (net : PlainNet) (streams : List Stream) (steps : ℕ) (power : Row) →
+        WellFormed original → original.clock ≡ None → WellFormed net → HasNoLoop net → Shape original report net →
+        AllByRecursion (λ p. IsTrue (is_shared report p.name)) original.ports → IsStateless report → IsStimulus original report streams steps →
+        length power ≡ length net.registers →
+        (tape : List Row) × (table : List Row) × IsTrace net power tape table × Drives original [] report net streams steps table }
 {}

@@ -1,12 +1,14 @@
-use Rattle.std.proofs.Common.{◌<◌, ◌≤◌, ◌+◌, length, ap, refl, ◌∙◌, arith, List, ℕ}
+use Rattle.std.proofs.Common.{◌<◌, ◌≤◌, ◌+◌, length, ap, refl, sym, subst, ◌∙◌, arith, List, ℕ}
 use Rattle.agm_net.specs.declared.port.Port.{Port}
 use Rattle.share_wiring.specs.Wiring.{Wiring}
 use Rattle.share_wiring.specs.Adds.{random_bits}
 use Rattle.hpc2_gadget.specs.Grown.{triangle}
 use Rattle.hpc2_gadget.proofs.PartNames.{below_none}
-use Rattle.hpc2_gadget.proofs.Made.{extends_trans, begun_later, triangle_half}
+use Rattle.share_wiring.proofs.Runs.{extends_trans}
+use Rattle.hpc2_gadget.proofs.Made.{begun_later, triangle_half}
 use Rattle.hpc2_gadget.proofs.Rows.{copied}
 use Rattle.hpc2_gadget.proofs.Sizes.{array_fits}
+use Rattle.share_wiring.specs.Cells.{AreCells}
 use Rattle.hpc2_gadget.proofs.gadget.multiply.Goals as goal
 
 pub gate-requires-clause-below : goal.gate-requires-clause-below
@@ -70,3 +72,7 @@ returns-clause-product g c cycles bits run =
     let clock = c.in_ok-clock.ensures.value cycles bits shares.0 in
     let begun = c.begin_gadget-gadget.ensures.adds cycles bits clock.0 in
     (begun.0, copied g.row.S cycles bits c.args.a.now.shares c.args.b.now.shares c.in_ok-shares.shares.shares c.in_ok-answer.answer.shares shares.1 answer.1)
+
+pub returns-clause-cells : goal.returns-clause-cells
+returns-clause-cells g c h =
+    c.in_ok-answer.ensures.cells (c.in_ok-shares.ensures.grown.cells (c.in_ok-clock.ensures.grown.cells (subst (λ (w : Wiring). AreCells w.wires) (sym c.begin_gadget-gadget.ensures.begun) h)))

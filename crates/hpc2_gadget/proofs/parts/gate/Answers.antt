@@ -1,4 +1,5 @@
-use Rattle.std.proofs.Common.{◌∙◌}
+use Rattle.std.proofs.Common.{◌∙◌, sym, subst}
+use Rattle.agm_net.specs.Simple.{IsCell}
 use Rattle.hpc2_gadget.specs.Kinds.{kind_of}
 use Rattle.hpc2_gadget.proofs.Made.{new_part, part_grown, part_shared}
 use Rattle.hpc2_gadget.proofs.parts.gate.Goals as goal
@@ -10,7 +11,7 @@ equate-requires-clause-part c =
 pub returns-clause-grown : goal.returns-clause-grown
 returns-clause-grown c =
     part_grown c.args.builder.now c.equate.new.self c.args.place.shares c.args.place.gadget (kind_of c.args.kind) c.args.i c.args.j c.as_slice.result.now _ (c.as_slice.ensures ∙ c.in_ok-name.ensures) c.args.place.size c.requires.index c.requires.below
-    c.in_ok-wire.ensures.extends c.in_ok-wire.ensures.stays c.in_ok-wire.ensures.made
+    c.in_ok-wire.ensures.extends c.in_ok-wire.ensures.stays (c.in_ok-wire.ensures.cells (subst IsCell (sym c.in_ok-expr.ensures) c.requires.cell)) c.in_ok-wire.ensures.made
 
 pub returns-clause-shared : goal.returns-clause-shared
 returns-clause-shared c shared =

@@ -10,7 +10,7 @@ store-requires-clause-part c =
 pub returns-clause-grown : goal.returns-clause-grown
 returns-clause-grown c =
     part_grown c.args.builder.now c.store.new.self c.args.place.shares c.args.place.gadget (kind_of c.args.kind) c.args.i c.args.j c.as_slice.result.now _ (c.as_slice.ensures ∙ c.in_ok-name.ensures) c.args.place.size c.requires.index c.requires.below
-    c.in_ok-wire.ensures.extends c.in_ok-wire.ensures.stays c.in_ok-wire.ensures.made
+    c.in_ok-wire.ensures.extends c.in_ok-wire.ensures.stays c.in_ok-wire.ensures.cells c.in_ok-wire.ensures.made
 
 pub returns-clause-shared : goal.returns-clause-shared
 returns-clause-shared c shared =

@@ -5,6 +5,8 @@ use Rattle.share_wiring.specs.Built.{IsBuilt, IsNewPart, source_fits, is_stored}
 use Rattle.share_wiring.specs.declared.gate.Wire.{Wire}
 use Rattle.share_wiring.proofs.Runs.{extends_append, extends_same}
 use Rattle.share_wiring.proofs.Parts.{part_built, part_keeps, part_registers}
+use Rattle.share_wiring.specs.Cells.{AddsCells}
+use Rattle.share_wiring.proofs.Cells.{cells_more}
 use Rattle.share_wiring.proofs.builder.Builder.add_part.Goals as goal
 
 pub returns-in_err-push-clause-extends : goal.returns-in_err-push-clause-extends
@@ -48,3 +50,9 @@ returns-clause-registers c =
     let old : Wiring = record { ports = c.self.inside.ports.items; wires = c.self.inside.wires.items; gadgets = c.self.inside.gadgets; given = c.self.inside.given } in
     subst (λ (net : Wiring). AddsRegisters (is_stored c.args.source) net (record old { wires = c.push.new.self.items })) c.self.view_is
     (part_registers old c.in_ok-name.name c.args.source (record old { wires = c.push.new.self.items }) c.in_ok-push.ensures.items)
+
+pub returns-clause-cells : goal.returns-clause-cells
+returns-clause-cells c cell =
+    let old : Wiring = record { ports = c.self.inside.ports.items; wires = c.self.inside.wires.items; gadgets = c.self.inside.gadgets; given = c.self.inside.given } in
+    let new : Wiring = record old { wires = c.push.new.self.items } in
+    subst (λ (net : Wiring). AddsCells net new) c.self.view_is (cells_more old new _ c.in_ok-push.ensures.items (cell, tt))

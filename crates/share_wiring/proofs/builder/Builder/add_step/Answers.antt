@@ -6,6 +6,8 @@ use Rattle.share_wiring.specs.Built.{IsBuilt, ReadsPublic}
 use Rattle.share_wiring.specs.declared.gate.Wire.{Wire}
 use Rattle.share_wiring.proofs.Runs.{extends_append, extends_refl}
 use Rattle.share_wiring.proofs.OwnWires.{step_wires, step_built, step_adds_registers, step_room, made_sharing, made_keep}
+use Rattle.share_wiring.specs.Cells.{AddsCells}
+use Rattle.share_wiring.proofs.Cells.{step_cells}
 use Rattle.share_wiring.proofs.builder.Builder.add_step.Goals as goal
 
 pub invariant_of-self : goal.invariant_of-self
@@ -68,3 +70,9 @@ returns-in-Err-clause-extends g c =
     let back : c.truncate.new.self.items ≡ c.self.inside.wires.items = c.truncate.ensures.items ∙ (ap (λ k. take k c.push_step.new.wires.items) (c.len-first.ensures ∙ c.self.inside.wires.ok.0) ∙ c.in-Err.ensures.err) in
     subst (λ (net : Wiring). Extends net (record old { wires = c.truncate.new.self.items })) c.self.view_is
     (subst (λ ws. Extends old (record old { wires = ws })) (sym back) (extends_refl old))
+
+pub returns-in-Ok-clause-cells : goal.returns-in-Ok-clause-cells
+returns-in-Ok-clause-cells g c =
+    let old : Wiring = record { ports = c.self.inside.ports.items; wires = c.self.inside.wires.items; gadgets = c.self.inside.gadgets; given = c.self.inside.given } in
+    let new : Wiring = record old { wires = c.push_step.new.wires.items } in
+    subst (λ (net : Wiring). AddsCells net new) c.self.view_is (step_cells old new g.row.S c.args.step c.args.x.now.shares c.args.y.now.shares c.in-Ok.ensures.ok)

@@ -6,6 +6,10 @@ use Rattle.agm_net.specs.Loop.{HasNoLoop}
 use Rattle.agm_net.specs.Trace.{Row, IsTrace, bit_at}
 use Rattle.share_wiring.specs.Wiring.{Wiring, IsRun, net_of}
 use Rattle.share_wiring.proofs.FinishedNet.{well_formed, no_loop, runs, finished}
+use Rattle.agm_net.specs.PlainForm.{IsPlain}
+use Rattle.agm_net.specs.Simple.{IsSmallNet}
+use Rattle.share_wiring.specs.Cells.{AreCells}
+use Rattle.share_wiring.proofs.SmallNet.{is_plain, is_small}
 use Rattle.share_wiring.proofs.builder.Builder.finish.Goals as goal
 
 pub from_parts-requires : goal.from_parts-requires
@@ -32,3 +36,16 @@ returns-clause-runs c =
     let same = finished old c.from_vec.result c.in_ok-names.names _ _ _ _ c.from_vec.ensures c.in_ok-names.ensures c.as_slice.ensures.value c.as_slice-2.ensures.value c.in_ok-equations.ensures c.in_ok-registers.ensures in
     made_with c.from_vec.result c.in_ok-names.names c.in_ok-equations.equations c.in_ok-registers.registers (Some 0) (λ (net : PlainNet). (power : Row) (tape table : List Row) → IsTrace net power tape table → IsRun c.args.self.wires (length table) (bit_at table)) c.from_parts.result c.from_parts.ensures
     (λ power tape table trace. subst (λ (net : Wiring). IsRun net.wires (length table) (bit_at table)) c.self.view_is (runs old power tape table (subst (λ net. IsTrace net power tape table) same trace)))
+
+pub returns-clause-plain : goal.returns-clause-plain
+returns-clause-plain c =
+    let old : Wiring = record { ports = c.self.inside.ports.items; wires = c.self.inside.wires.items; gadgets = c.self.inside.gadgets; given = c.self.inside.given } in
+    let same = finished old c.from_vec.result c.in_ok-names.names _ _ _ _ c.from_vec.ensures c.in_ok-names.ensures c.as_slice.ensures.value c.as_slice-2.ensures.value c.in_ok-equations.ensures c.in_ok-registers.ensures in
+    made_with c.from_vec.result c.in_ok-names.names c.in_ok-equations.equations c.in_ok-registers.registers (Some 0) IsPlain c.from_parts.result c.from_parts.ensures (subst IsPlain (sym same) (is_plain old c.self.invariant.0))
+
+pub returns-clause-small : goal.returns-clause-small
+returns-clause-small c =
+    let old : Wiring = record { ports = c.self.inside.ports.items; wires = c.self.inside.wires.items; gadgets = c.self.inside.gadgets; given = c.self.inside.given } in
+    let same = finished old c.from_vec.result c.in_ok-names.names _ _ _ _ c.from_vec.ensures c.in_ok-names.ensures c.as_slice.ensures.value c.as_slice-2.ensures.value c.in_ok-equations.ensures c.in_ok-registers.ensures in
+    made_with c.from_vec.result c.in_ok-names.names c.in_ok-equations.equations c.in_ok-registers.registers (Some 0) (λ (net : PlainNet). AreCells c.args.self.wires → IsSmallNet net) c.from_parts.result c.from_parts.ensures
+    (λ cells. subst IsSmallNet (sym same) (is_small old c.self.invariant.0 (subst (λ (net : Wiring). AreCells net.wires) (sym c.self.view_is) cells)))

@@ -12,6 +12,8 @@ use Rattle.share_wiring.specs.declared.gate.Source.TheVariants.{Input}
 use Rattle.share_wiring.specs.declared.gate.Wire.{Wire}
 use Rattle.share_wiring.proofs.Runs.{extends_append, extends_same, run_front}
 use Rattle.share_wiring.proofs.PortWires.{last_in_built, append_random, none_stored, new_port}
+use Rattle.share_wiring.specs.Cells.{AddsCells}
+use Rattle.share_wiring.proofs.Cells.{port_cells}
 use Rattle.share_wiring.proofs.builder.Builder.port_in.Goals as goal
 
 pub invariant_of-self : goal.invariant_of-self
@@ -56,3 +58,9 @@ returns-in-Err-clause-extends c =
     let back : c.truncate.new.self.items ≡ c.self.inside.wires.items = c.truncate.ensures.items ∙ (ap (λ k. take k c.push_input_port.new.wires.items) (c.len-wires.ensures ∙ c.self.inside.wires.ok.0) ∙ c.in-Err.ensures.err.0) in
     let after : Wiring = record old { ports = c.truncate-in-Err.new.self.items; wires = c.truncate.new.self.items } in
     subst (λ (net : Wiring). Extends net after) c.self.view_is (extends_same old after back (omega arith))
+
+pub returns-in-Ok-clause-cells : goal.returns-in-Ok-clause-cells
+returns-in-Ok-clause-cells c =
+    let old : Wiring = record { ports = c.self.inside.ports.items; wires = c.self.inside.wires.items; gadgets = c.self.inside.gadgets; given = c.self.inside.given } in
+    let new : Wiring = record old { ports = c.push_input_port.new.ports.items; wires = c.push_input_port.new.wires.items } in
+    subst (λ (net : Wiring). AddsCells net new) c.self.view_is (port_cells old new (bit_names c.args.name.now c.args.range) (λ i. Input) (λ i. tt) c.in-Ok.ensures.wires)
