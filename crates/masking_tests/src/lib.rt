@@ -1,0 +1,11 @@
+//! Tests of the crates that mask: wiring, gadgets and masked nets.
+#![tactic(auto)]
+
+#[cfg(test)]
+mod evaluator;
+#[cfg(test)]
+mod gadgets;
+#[cfg(test)]
+mod masked_nets;
+#[cfg(test)]
+mod public_wires;

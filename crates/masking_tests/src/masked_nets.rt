@@ -1,0 +1,299 @@
+//! Masked nets compute what the original does, at every order. The outputs were worked out by hand.
+
+ghost use Rattle.std.specs.Prelude.{◌≤◌, IfOk, IfSome};
+ghost use Rattle.masking_tests.specs.Served.{IsServed};
+
+use crate::evaluator::{bit, next};
+use agm_bits::Memory;
+use share_wiring::Masked;
+use simple_masking::mask_net;
+use small_net::{Case, Original, linear_is_simple, product_is_one, read_case};
+use std::alloc::{AllocError, Global};
+use std::test::Fail;
+
+/// The inputs of each step, and its outputs.
+type Steps = &'static [(&'static str, &'static str)];
+
+/// A netlist, the names of its inputs and outputs, whether it is a product, and its steps.
+struct Example {
+    text: &'static str,
+    inputs: &'static [&'static str],
+    outputs: &'static [&'static str],
+    is_product: bool,
+    steps: Steps,
+}
+
+const EXAMPLES: [Example; 3] = [
+    Example {
+        text: "module sum(a, b, y); (* AGEMA = \"secure\" *) input a; (* AGEMA = \"secure\" *) input b; output y; AGM_XOR2 u (.A(a), .B(b), .Y(y)); endmodule",
+        inputs: &["a", "b"],
+        outputs: &["y"],
+        is_product: false,
+        steps: &[("00", "0"), ("10", "1"), ("01", "1"), ("11", "0")],
+    },
+    Example {
+        text: "module one(a, b, y); (* AGEMA = \"secure\" *) input a; (* AGEMA = \"secure\" *) input b; output y; AGM_AND2 u (.A(a), .B(b), .Y(y)); endmodule",
+        inputs: &["a", "b"],
+        outputs: &["y"],
+        is_product: true,
+        steps: &[("00", "0"), ("11", "1"), ("01", "0"), ("10", "0")],
+    },
+    Example {
+        text: "module five(a, b, c, d, y, z); (* AGEMA = \"secure\" *) input a; (* AGEMA = \"secure\" *) input b; (* AGEMA = \"secure\" *) input c; (* AGEMA = \"secure\" *) input d; output y; output z; wire p, q, r; AGM_XOR2 u0 (.A(a), .B(b), .Y(p)); AGM_NOT u1 (.A(p), .Y(q)); AGM_XOR2 u2 (.A(q), .B(c), .Y(r)); AGM_XOR2 u3 (.A(r), .B(d), .Y(y)); AGM_NOT u4 (.A(r), .Y(z)); endmodule",
+        inputs: &["a", "b", "c", "d"],
+        outputs: &["y", "z"],
+        is_product: false,
+        steps: &[
+            ("0000", "10"),
+            ("1000", "01"),
+            ("0110", "10"),
+            ("1110", "01"),
+            ("0011", "11"),
+            ("1011", "00"),
+        ],
+    },
+];
+
+// The net of a text of the first form, None where it is none.
+fn read_original(alloc: Global, bytes: &[u8]) -> Result<Option<Original>, Memory>
+    ensures { IfOk result (λ o. IfSome o IsServed) }
+{
+    linear_is_simple();
+    product_is_one();
+    let found = read_case(alloc, bytes)?;
+    match found {
+        Some(Case::Linear(original)) => Ok(Some(original)),
+        Some(Case::Product(original)) => Ok(Some(original)),
+        None => Ok(None),
+    }
+}
+
+// The same, where it is one.
+fn original_of(alloc: Global, text: &str) -> Result<Original, Fail>
+    ensures { IfOk result IsServed }
+{
+    let found = read_original(alloc, text.as_bytes())?;
+    match found {
+        Some(original) => Ok(original),
+        None => Err(Fail::from("the text is not of the first form")),
+    }
+}
+
+// The masked net of a text at an order.
+fn masked_of(alloc: Global, text: &str, order: u32) -> Result<Masked, Fail>
+    requires { (1 ≤ order) × (order ≤ 7) }
+{
+    let original = original_of(alloc, text)?;
+    Ok(mask_net(alloc, &original.net, &original.marks, order)?)
+}
+
+// Adds the names of the shares of ports.
+fn push_names(
+    alloc: Global,
+    names: &mut Vec<String>,
+    order: u32,
+    ports: &[&str],
+) -> Result<(), AllocError> {
+    for port in ports {
+        for i in 0..=order {
+            names.push(format!(in alloc; "agm_s{i}_{port}")?)?;
+        }
+    }
+    Ok(())
+}
+
+// The names of the masked net's ports.
+fn names_of(alloc: Global, example: &Example, order: u32) -> Result<Vec<String>, AllocError> {
+    let mut names = Vec::new(alloc);
+    names.push(format!(in alloc; "agm_clk")?)?;
+    names.push(format!(in alloc; "agm_load")?)?;
+    if example.is_product {
+        names.push(format!(in alloc; "agm_r")?)?;
+    }
+    push_names(alloc, &mut names, order, example.inputs)?;
+    push_names(alloc, &mut names, order, example.outputs)?;
+    Ok(names)
+}
+
+// Whether the masked net has these ports, and the report these numbers.
+fn is_shaped(masked: &Masked, names: &[String], example: &Example, order: u32) -> bool {
+    let ports = masked.net.ports.as_slice();
+    let are_named = ports
+        .iter()
+        .zip(names)
+        .all(|(port, name)| port.name.as_slice() == name.as_bytes());
+    let report = &masked.report;
+    let (gadgets, latency) = if example.is_product { (1, 2) } else { (0, 0) };
+    let order_bits = usize::try_from(order).unwrap_or(0);
+    are_named
+        && ports.len() == names.len()
+        && report.order == order
+        && report.gadgets == gadgets
+        && report.random == gadgets * order_bits * (order_bits + 1) / 2
+        && report.latency == latency
+        && report.period == latency + 1
+        && report.streams == latency + 1
+}
+
+// Bits that look random, by a linear congruential generator.
+#[derive(Drop)]
+struct Shuffled {
+    state: u32,
+}
+
+impl Shuffled {
+    fn next_bit(&mut self) -> bool {
+        self.state = self
+            .state
+            .wrapping_mul(1_664_525)
+            .wrapping_add(1_013_904_223);
+        self.state >= 1 << 31
+    }
+}
+
+// Adds the shares of a bit, all but the last of which are drawn.
+fn push_shares(
+    row: &mut Vec<bool>,
+    order: u32,
+    secret: bool,
+    drawn: &mut Shuffled,
+) -> Result<(), AllocError> {
+    let mut last = secret;
+    for _ in 0..order {
+        let share = drawn.next_bit();
+        row.push(share)?;
+        last = last != share;
+    }
+    row.push(last)?;
+    Ok(())
+}
+
+// The bits of the first wires in a cycle: the clock, the load signal, random bits, and the shares of each input.
+fn row_of(
+    alloc: Global,
+    masked: &Masked,
+    load: bool,
+    inputs: &str,
+    drawn: &mut Shuffled,
+) -> Result<Vec<bool>, AllocError> {
+    let mut row = Vec::new(alloc);
+    row.push(false)?;
+    row.push(load)?;
+    for _ in 0..masked.report.random {
+        row.push(drawn.next_bit())?;
+    }
+    for input in inputs.as_bytes() {
+        push_shares(&mut row, masked.report.order, *input == b'1', drawn)?;
+    }
+    Ok(row)
+}
+
+// What the shares of a port recombine to.
+fn recombined(alloc: Global, masked: &Masked, bits: &[bool], port: &str) -> Result<bool, Fail> {
+    let mut secret = false;
+    for index in 0..=masked.report.order {
+        let name = format!(in alloc; "agm_s{index}_{port}")?;
+        match masked.net.wire(name.as_bytes()) {
+            Some(wire) => secret = secret != bit(bits, wire),
+            None => return Err(Fail::from("a share is missing")),
+        }
+    }
+    Ok(secret)
+}
+
+// Whether the outputs of these names recombine to these bits.
+fn are_outputs(
+    alloc: Global,
+    masked: &Masked,
+    bits: &[bool],
+    names: &[&str],
+    wanted: &str,
+) -> Result<bool, Fail> {
+    for (name, value) in names.iter().zip(wanted.as_bytes()) {
+        if recombined(alloc, masked, bits, name)? != (*value == b'1') {
+            return Ok(false);
+        }
+    }
+    Ok(true)
+}
+
+// A step of those that come again and again.
+fn step(steps: Steps, k: usize) -> (&'static str, &'static str) {
+    match steps.iter().cycle().nth(k) {
+        Some(step) => *step,
+        None => ("", ""),
+    }
+}
+
+// Whether the steps of all streams are right, where registers begin with 1: in each cycle behind that of loading a step of some stream
+// is given, and the same cycle with the latency added is the one in which it is read.
+fn is_right(
+    alloc: Global,
+    masked: &Masked,
+    example: &Example,
+    drawn: &mut Shuffled,
+) -> Result<bool, Fail> {
+    let mut bits = vec![in alloc; true; masked.net.wires.len()]?;
+    for cycle in 0..16usize {
+        let (inputs, _) = step(example.steps, cycle);
+        let row = row_of(alloc, masked, cycle < masked.report.period, inputs, drawn)?;
+        let mut now = vec![in alloc; true; masked.net.wires.len()]?;
+        next(
+            &masked.net,
+            bits.as_slice(),
+            row.as_slice(),
+            now.as_mut_slice(),
+        );
+        bits = now;
+        if cycle > masked.report.latency {
+            let (_, wanted) = step(example.steps, cycle - masked.report.latency);
+            if !are_outputs(alloc, masked, bits.as_slice(), example.outputs, wanted)? {
+                return Ok(false);
+            }
+        }
+    }
+    Ok(true)
+}
+
+// Whether the masked net of an example at an order has the ports, the report and the outputs that it should.
+fn is_masked(alloc: Global, example: &Example, order: u32) -> Result<bool, Fail>
+    requires { (1 ≤ order) × (order ≤ 7) }
+{
+    let mut drawn = Shuffled { state: order };
+    let masked = masked_of(alloc, example.text, order)?;
+    let names = names_of(alloc, example, order)?;
+    Ok(
+        is_shaped(&masked, names.as_slice(), example, order)
+            && is_right(alloc, &masked, example, &mut drawn)?
+            && is_right(alloc, &masked, example, &mut drawn)?,
+    )
+}
+
+#[test]
+fn masks_at_every_order(rt: HostRuntime) -> Result<(), Fail> {
+    for example in EXAMPLES.iter() {
+        for order in 1..8u32 {
+            assert!(rt;
+                is_masked(rt.alloc(), example, order)?,
+                "at {order}: {}",
+                example.text
+            );
+        }
+    }
+    Ok(())
+}
+
+// How many wires, equations and registers each masked net has at order 1. The product: the clock, the load signal, a random bit and four
+// shares of inputs; the delay of a; the 31 parts of the gadget, 11 of which are registers; its copies; and two shares of y.
+const COUNTS: [(usize, usize, usize); 3] = [(10, 4, 0), (44, 24, 13), (24, 14, 0)];
+
+#[test]
+fn counts_at_order_one(rt: HostRuntime) -> Result<(), Fail> {
+    for (example, (wires, equations, registers)) in EXAMPLES.iter().zip(COUNTS.iter()) {
+        let net = masked_of(rt.alloc(), example.text, 1)?.net;
+        assert_eq!(rt; net.wires.len(), *wires);
+        assert_eq!(rt; net.equations.len(), *equations);
+        assert_eq!(rt; net.registers.len(), *registers);
+    }
+    Ok(())
+}

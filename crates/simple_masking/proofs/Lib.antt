@@ -1,0 +1,14 @@
+pub mod NewPorts
+pub mod SharePorts
+pub mod PortSteps
+pub mod Solving
+pub mod PortFacts
+pub mod Entering
+pub mod Placing
+pub mod Made
+pub mod SameMask
+pub mod Secrets
+pub mod FirstWires
+pub mod Reports
+pub mod DrivenMask
+pub mod Products
