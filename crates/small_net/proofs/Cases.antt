@@ -1,15 +1,14 @@
 -- The tests of the two cases of the first form decide them.
-use Rattle.std.proofs.Common.{◌≡◌, ◌||◌, ℕ, true, false, List, [], ◌∷◌, refl, ap, ◌∙◌}
-use Rattle.std.specs.List.{flat_map, list_all, list_any, AllByRecursion}
+use Rattle.std.proofs.Common.{◌≡◌, ◌||◌, ℕ, true, false, List, [], ◌∷◌, refl, ap, ◌∙◌, inl, inr}
+use Rattle.std.specs.List.{flat_map, list_all, list_any}
 use Rattle.std.proofs.lemmas.Bool.{both_ways}
 use Rattle.small_text.specs.declared.small.Declaration.{Declaration}
 use Rattle.small_text.specs.declared.small.Item.{Item}
 use Rattle.small_text.specs.declared.small.Item.TheVariants.{Assign, Not, Xor, And, Register}
 use Rattle.small_text.specs.declared.small.Small.{Small}
 use Rattle.small_net.specs.States.{is_among}
-use Rattle.small_net.specs.FirstForm.{IsGateForm, IsLinearCell, IsOneProduct, IsLinearForm, IsProductForm, output_names, outputs_of}
+use Rattle.small_net.specs.FirstForm.{IsGateForm, IsLinearCell, IsOneProduct, IsLinearForm, IsProductForm, IsFirstForm, output_names, outputs_of}
 use Rattle.small_net.specs.First.{is_linear_cell, is_product_of, is_only, is_one_product}
-use Rattle.small_net.specs.Texts.{IsNoCase}
 use Rattle.small_net.proofs.Among.{among_append}
 use Rattle.small_net.proofs.Decided.{passed, passes}
 
@@ -59,6 +58,7 @@ pub product_refused : (s : Small) → is_one_product s ≡ false → IsProductFo
 product_refused s h form =
     let p = form.1 in both_ways _ h (ap (λ items. is_only (is_product_of (outputs_of s)) items) p.only ∙ p.is_output)
 
--- what is no text of gates is of neither case
-pub no_gates : (s : Small) → (IsGateForm s → Prim.⊥) → IsNoCase s
-no_gates s none = ((λ form. none form.0), (λ form. none form.0))
+-- what is of neither case is not of the first form
+pub neither : (s : Small) → (IsLinearForm s → Prim.⊥) → (IsProductForm s → Prim.⊥) → IsFirstForm s → Prim.⊥
+neither s linear product (inl form) = linear form
+neither s linear product (inr form) = product form

@@ -1,14 +1,12 @@
 -- What the declarations of a written module say of its ports and wires.
-use Rattle.std.proofs.Common.{◌≡◌, ◌≢◌, ℕ, zero, suc, ◌+◌, ◌<◌, List, [], ◌∷◌, ◌++◌, Bool, true, false, ◌&&◌, cond, length, map, count_by, position, Option, Some, None, IsTrue, is_none, slice_get, refl, ap, ap₂, ◌∙◌, sym, arith, zero-add}
+use Rattle.std.proofs.Common.{◌≡◌, ◌≢◌, ℕ, zero, suc, ◌+◌, ◌<◌, List, [], ◌∷◌, ◌++◌, Bool, true, false, not, cond, length, map, filter, count_by, position, Option, Some, None, IsTrue, slice_get, refl, ap, ap₂, ◌∙◌, sym, arith, zero-add}
 use Rattle.std.specs.List.{AllByRecursion, flat_map, enumerate_from, position_or_len}
 use Rattle.std.specs.Option.{option_map_or}
-use Rattle.std.specs.Str.{bytes_eq}
 use Rattle.std.proofs.lemmas.Bool.{lt-ltb, le-ltb, ne_eqb}
 use Rattle.std.proofs.lemmas.Bool.Decides.{Decides-eqb}
 use Rattle.std.proofs.lemmas.List.{length-map}
 use Rattle.std.proofs.lemmas.List.Sums.{sum_by-cons}
 use Rattle.std.proofs.lemmas.Option.{slice_get_within}
-use Rattle.agm_net.specs.Plain.{is_in}
 use Rattle.agm_net.specs.WellFormed.{is_clock_port}
 use Rattle.agm_net.specs.declared.mark.Mark.{Mark}
 use Rattle.agm_net.specs.declared.port.Way.{Way}
@@ -19,7 +17,7 @@ use Rattle.small_text.specs.declared.small.Declaration.TheVariants.{Port}
 use Rattle.small_net.specs.States.{Facts, declares, facts_of, is_among, declared_wires, is_clock, IsOfPort}
 use Rattle.small_net.specs.Texts.{mark_at}
 use Rattle.small_net.specs.Written.{port_declaration, wire_declaration}
-use Rattle.small_net.proofs.Apart.{Apart, all_both, bytes_same, bytes_differ, one_more}
+use Rattle.small_net.proofs.Apart.{Apart, all_both, all_from, none_among, filter_all, bytes_same, bytes_differ, one_more}
 
 -- the declarations of ports, the first of which is port k
 abbrev pub declared_ports : Option ℕ → ℕ → List net_port.Port → List Declaration
@@ -59,13 +57,6 @@ marks_again ds clock k (p ∷ ps) d = ap₂ (λ m ms. m ∷ ms) (ap (λ facts. f
 range_of_wires : (own : List (List ℕ)) (n : List ℕ) → (facts_of (map wire_declaration own) n).range ≡ None
 range_of_wires [] n = refl
 range_of_wires (w ∷ ws) n = range_of_wires ws n
-
-pub no_range : (clock : Option ℕ) (own : List (List ℕ)) (k : ℕ) (ps : List net_port.Port) (n : List ℕ) → AllByRecursion (λ p. p.range ≡ None) ps → (facts_of (declared_ports clock k ps ++ map wire_declaration own) n).range ≡ None
-no_range clock own k [] n plain = range_of_wires own n
-no_range clock own k (p ∷ ps) n plain =
-    let more = facts_of (declared_ports clock (k + 1) ps ++ map wire_declaration own) n in
-    let here = port_facts clock k p in
-    elim (bytes_eq p.name n) as (λ b. (cond b here more).range ≡ None) [ true ↦ plain.0 | false ↦ no_range clock own (k + 1) ps n plain.1 ]
 
 -- a name that is no port's has no declaration with a range
 pub other_range : (clock : Option ℕ) (own : List (List ℕ)) (k : ℕ) (ps : List net_port.Port) (n : List ℕ) → AllByRecursion (λ m. n ≢ m) (names_of ps) → (facts_of (declared_ports clock k ps ++ map wire_declaration own) n).range ≡ None
@@ -168,3 +159,8 @@ clock_again ds (Some c) ps d fits =
     let inside = slice_get_within ps c at.port at.here in
     let long : length (names_of ps) ≡ length ps = length-map ps (λ p. p.name) in
     position_at (names_clock ds) (names_of ps) c (clock_some ds c 0 c ps at.port d (sym (zero-add c)) at.here at.clocked) (omega arith)
+
+-- the declared wires that are no ports are those whose names are no ports'
+pub own_from : (ports own declared : List (List ℕ)) → declared ≡ own → Apart (ports ++ own) → filter (λ n. not (is_among ports n)) declared ≡ own
+own_from ports own declared e apart =
+    rw e (filter_all (λ n. not (is_among ports n)) own (all_from (λ n. is_among ports n ≡ false) (λ n. not (is_among ports n) ≡ true) (λ n no. ap not no) own (none_among ports own apart)))

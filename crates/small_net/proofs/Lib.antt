@@ -1,11 +1,8 @@
 pub mod Numbered
 pub mod Apart
-pub mod PortsFirst
 pub mod Declared
 pub mod Instances
-pub mod Scope
 pub mod Fits
-pub mod ModuleStates
 pub mod Among
 pub mod Numbers
 pub mod Facts

@@ -1,5 +1,5 @@
 -- The net that a written module states is the given one renumbered.
-use Rattle.std.proofs.Common.{◌≡◌, ◌≤◌, ◌<◌, ◌+◌, ℕ, true, ◌&&◌, List, [], ◌∷◌, ◌++◌, length, map, get_or, nat_lt, Some, slice_get, refl, sym, ap, ap₂, subst, ◌∙◌, inl, inr, arith, append-nil}
+use Rattle.std.proofs.Common.{◌≡◌, ◌<◌, ◌+◌, ℕ, true, ◌&&◌, List, [], ◌∷◌, ◌++◌, length, map, get_or, nat_lt, Some, slice_get, refl, sym, ap, ap₂, ◌∙◌, inl, inr, arith, append-nil}
 use Rattle.std.specs.List.{AllByRecursion, flat_map, list_all, enumerate_from}
 use Rattle.std.proofs.lemmas.Bool.{cases_lt, and_parts}
 use Rattle.std.proofs.lemmas.Grind.{flat_map-append}
@@ -11,12 +11,10 @@ use Rattle.agm_net.specs.Simple.{IsSmallNet}
 use Rattle.agm_net.specs.WellFormed.{WellFormed}
 use Rattle.agm_net.specs.Renumbered.{renumbered, renumbered_line, renumbered_register, renumbered_port, Renumbered}
 use Rattle.agm_net.specs.declared.port.Port.{Port}
-use Rattle.small_text.specs.declared.small.Item.{Item}
 use Rattle.small_text.specs.declared.small.Small.{Small}
-use Rattle.small_net.specs.States.{Facts, facts_of, bits_of, bit_name, scope, wire_of, item_lines, item_registers, item_bits, port_of, net_of}
+use Rattle.small_net.specs.States.{Facts, facts_of, bits_of, bit_name, scope, wire_of, item_lines, item_registers, port_of, net_of}
 use Rattle.small_net.specs.Sites.{sites_of}
-use Rattle.small_net.specs.Netlist.{equation_item, register_item, next_wire, netlist_items}
-use Rattle.small_net.proofs.Apart.{all_append}
+use Rattle.small_net.specs.Netlist.{equation_item, register_item, next_wire}
 use Rattle.small_net.proofs.Declared.{names_of, DeclaredAs, clock_again}
 use Rattle.small_net.proofs.Order.{place, number, place_in, place_out, place_inside, number_of_place, place_of_number, there_it_is}
 use Rattle.small_net.proofs.Sited as sited

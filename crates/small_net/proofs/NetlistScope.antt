@@ -1,33 +1,29 @@
 -- The bits that a written module declares, and the net that it states: the given one renumbered.
-use Rattle.std.proofs.Common.{◌≡◌, ◌≢◌, ◌≤◌, ◌<◌, ◌+◌, ◌==◌, ℕ, zero, suc, Bool, true, false, not, ◌&&◌, cond, List, [], ◌∷◌, ◌++◌, length, map, get_or, nat_lt, Option, Some, None, IsTrue, is_none, slice_get, slice_index_or, codes, refl, sym, ap, ap₂, subst, ◌∙◌, inl, inr, arith, eq-eqb, append-nil}
-use Rattle.std.specs.List.{AllByRecursion, flat_map, list_all, list_any, enumerate_from, position_or_len}
+use Rattle.std.proofs.Common.{◌≡◌, ◌≢◌, ◌≤◌, ◌<◌, ◌+◌, ◌==◌, ℕ, zero, suc, true, false, not, ◌&&◌, cond, List, [], ◌∷◌, ◌++◌, length, map, nat_lt, Option, Some, None, is_none, slice_get, slice_index_or, codes, refl, sym, ap, ap₂, subst, ◌∙◌, inl, inr, arith, eq-eqb}
+use Rattle.std.specs.List.{AllByRecursion, flat_map, list_all, enumerate_from, position_or_len}
 use Rattle.std.specs.Str.{bytes_eq}
-use Rattle.std.proofs.lemmas.Bool.{both_ways, cases_lt, cases_Bool, or_cases, and_parts, and_from, eqb-true, ltb-true, false_from_ne_true}
-use Rattle.std.proofs.lemmas.Grind.{flat_map-append}
-use Rattle.std.proofs.lemmas.List.{map-append, length-map, get_or-map}
-use Rattle.std.proofs.lemmas.Option.{slice_get_within, slice_get-get_or, get_or_from_slice_get}
+use Rattle.std.proofs.lemmas.Bool.{both_ways, cases_Bool, or_cases, and_parts, and_from, eqb-true, ltb-true, false_from_ne_true}
+use Rattle.std.proofs.lemmas.List.{map-append}
+use Rattle.std.proofs.lemmas.Option.{slice_get_within, get_or_from_slice_get}
 use Rattle.agm_net.specs.Formula.{Formula, f_zero, f_one, f_wire, f_not, f_and, f_xor, reads_below}
 use Rattle.agm_net.specs.Plain.{Line, Stored, PlainNet, bit_names, range_numbers, select_name}
 use Rattle.agm_net.specs.PlainForm.{IsWire}
 use Rattle.agm_net.specs.Simple.{IsCell, IsSmallNet}
 use Rattle.agm_net.specs.WellFormed.{WellFormed, Differ}
-use Rattle.agm_net.specs.Renumbered.{renumbered, renumbered_line, renumbered_register, renumbered_port, Renumbered}
 use Rattle.agm_net.specs.declared.port.Range.{Range}
 use Rattle.agm_net.specs.declared.port.Port.{Port}
 use Rattle.small_text.specs.declared.small.Bit.{Bit}
 use Rattle.small_text.specs.declared.small.Declaration.{Declaration}
-use Rattle.small_text.specs.declared.small.Item.{Item}
 use Rattle.small_text.specs.declared.small.Small.{Small}
 use Rattle.small_net.specs.declared.sites.Site.{Site}
-use Rattle.small_net.specs.States.{Facts, facts_of, wire_names, own_wires, plain_bit, bits_of, bit_name, scope, same_bit, same_index, wire_of, item_lines, item_registers, item_bits, port_of, net_of}
+use Rattle.small_net.specs.States.{Facts, facts_of, wire_names, own_wires, plain_bit, bits_of, bit_name, scope, same_bit, same_index, wire_of}
 use Rattle.small_net.specs.Written.{wire_declaration}
 use Rattle.small_net.specs.Sites.{sites_of, site_at, site_bit, bit_of}
-use Rattle.small_net.specs.Netlist.{equation_item, register_item, next_wire, netlist_items, netlist_of}
+use Rattle.small_net.specs.Netlist.{netlist_items, netlist_of}
 use Rattle.small_net.proofs.Apart.{Apart, all_append, all_from, all_by_place, apart_from_Differ, apart_append, bytes_same}
 use Rattle.small_net.proofs.Among.{same_names}
-use Rattle.small_net.proofs.Declared.{declared_ports, names_of, DeclaredAs, declared_as, wires_declared, clock_again}
-use Rattle.small_net.proofs.Scope.{own_from}
-use Rattle.small_net.proofs.Order.{Once, has, IsOrder, place, number, place_in, place_out, place_inside, number_of_place, place_of_number, there_it_is}
+use Rattle.small_net.proofs.Declared.{declared_ports, names_of, DeclaredAs, declared_as, wires_declared, own_from}
+use Rattle.small_net.proofs.Order.{Once, has, IsOrder, place, place_in}
 use Rattle.small_net.proofs.Renumbering.{of_one, differ_either}
 use Rattle.small_net.proofs.Sited as sited
 use Rattle.small_net.proofs.OwnWires as own

@@ -1,8 +1,8 @@
 -- The module that is written for a net states it renumbered, keeps the grammar, and its names can be written.
-use Rattle.std.proofs.Common.{◌≡◌, ◌≢◌, ◌≤◌, ◌<◌, ◌+◌, ◌-◌, ◌^◌, ℕ, zero, suc, true, List, [], ◌∷◌, ◌++◌, length, map, Option, Some, None, slice_get, nat_eq, codes, refl, sym, ap, ap₂, subst, ◌∙◌, inl, inr, arith}
+use Rattle.std.proofs.Common.{◌≡◌, ◌≢◌, ◌≤◌, ◌<◌, ◌+◌, ◌-◌, ◌^◌, ℕ, zero, suc, List, [], ◌∷◌, ◌++◌, length, map, Option, Some, None, slice_get, nat_eq, codes, refl, sym, ap, subst, ◌∙◌, inl, inr, arith}
 use Rattle.std.specs.Prelude.{nat_le, false}
 use Rattle.std.specs.List.{AllByRecursion, flat_map, enumerate_from, range_with_len, starts_with}
-use Rattle.std.proofs.lemmas.Bool.{cases_Bool, leb-true, leb-false}
+use Rattle.std.proofs.lemmas.Bool.{cases_Bool, leb-false}
 use Rattle.std.proofs.lemmas.Grind.{flat_map-append}
 use Rattle.std.proofs.lemmas.List.{length-map}
 use Rattle.agm_net.specs.Plain.{Line, Stored, PlainNet, range_numbers, line_of, stored_of}
@@ -16,10 +16,9 @@ use Rattle.agm_net.specs.declared.expr.Register.{Register}
 use Rattle.agm_net.specs.declared.port.Range.{Range}
 use Rattle.agm_net.specs.declared.port.Port.{Port}
 use Rattle.small_text.specs.declared.small.Bit.{Bit}
-use Rattle.small_text.specs.declared.small.Item.{Item}
 use Rattle.small_text.specs.declared.small.Small.{Small}
-use Rattle.small_text.specs.Grammar.{Spelled, IsRange, IsIndex, IsBit, IsItem, IsSmall, IsWritableBit, IsWritableItem, HasWritableNames}
-use Rattle.small_net.specs.States.{States, facts_of, wire_names, own_wires, plain_bit, bits_of, scope, wire_of, item_bits, instance_names, net_of}
+use Rattle.small_text.specs.Grammar.{Spelled, IsRange, IsBit, IsItem, IsSmall, IsWritableBit, IsWritableItem, HasWritableNames}
+use Rattle.small_net.specs.States.{States, facts_of, own_wires, plain_bit, bits_of, scope, wire_of, item_bits, instance_names, net_of}
 use Rattle.small_net.specs.Texts.{written_marks, StatesRenumbered}
 use Rattle.small_net.specs.Written.{instance_name}
 use Rattle.small_net.specs.Sites.{sites_of}
@@ -28,7 +27,7 @@ use Rattle.small_net.proofs.Apart.{Apart, all_append, all_from, all_every, Diffe
 use Rattle.small_net.proofs.Declared.{names_of, declared_once, listed, marks_again, other_range}
 use Rattle.small_net.proofs.Instances.{IsInstanceFrom, same_number, no_instance, instance_writable}
 use Rattle.small_net.proofs.Fits.{declarations_fit, declarations_writable}
-use Rattle.small_net.proofs.Order.{place, place_inside}
+use Rattle.small_net.proofs.Order.{place_inside}
 use Rattle.small_net.proofs.Renumbering.{of_one, renumbered_well_formed}
 use Rattle.small_net.proofs.Sited as sited
 use Rattle.small_net.proofs.OwnWires as own

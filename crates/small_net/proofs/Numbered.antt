@@ -4,10 +4,8 @@ use Rattle.std.specs.List.{enumerate_from, flat_map}
 use Rattle.std.proofs.lemmas.Grind.{take_at_read, flat_map-append}
 use Rattle.std.proofs.lemmas.List.{map-append, length-map, length-take}
 use Rattle.std.proofs.lemmas.List.Sums.{fold-append}
-use Rattle.agm_net.specs.Plain.{line_of}
 use Rattle.agm_net.specs.declared.port.Port.{Port}
-use Rattle.agm_net.specs.declared.expr.Equation.{Equation}
-use Rattle.small_net.specs.Written.{port_declaration, line_item}
+use Rattle.small_net.specs.Written.{port_declaration}
 
 -- one more item has the next number
 enumerate_push : {X : Type 0} (n : ℕ) (xs : List X) (x : X) → enumerate_from n (xs ++ x ∷ []) ≡ enumerate_from n xs ++ (n + length xs, x) ∷ []
@@ -56,7 +54,3 @@ map_enumerate_more f v xs i d h =
 pub port_declarations_more : (clock : Option ℕ) (ports : List Port) (i : ℕ) (d : Port) → i < length ports → map (port_declaration clock) (enumerate_from 0 (take (i + 1) ports)) ≡ map (port_declaration clock) (enumerate_from 0 (take i ports)) ++ port_declaration clock (i, get_or ports i d) ∷ []
 port_declarations_more clock ports i d h =
     rw ((take_at_read ports i d h).1, enumerate_push 0 (take i ports) (get_or ports i d), map-append (port_declaration clock) (enumerate_from 0 (take i ports))) (let long : 0 + length (take i ports) ≡ i = simp length-take (omega arith) in rw long)
-
--- the same of the items of equations
-pub line_items_more : (wires : List (List ℕ)) (equations : List Equation) (i : ℕ) (d : Equation) → i < length equations → map (line_item wires) (enumerate_from 0 (map line_of (take (i + 1) equations))) ≡ map (line_item wires) (enumerate_from 0 (map line_of (take i equations))) ++ line_item wires (i, line_of (get_or equations i d)) ∷ []
-line_items_more wires equations i d h = map_enumerate_more (line_item wires) line_of equations i d h

@@ -1,8 +1,8 @@
 -- Lists that have each number below their length once.
-use Rattle.std.proofs.Common.{◌≡◌, ◌≢◌, ◌≤◌, ◌<◌, ◌+◌, ◌==◌, ℕ, zero, suc, Bool, true, false, not, ◌||◌, cond, List, [], ◌∷◌, ◌++◌, length, get_or, nat_lt, IsTrue, refl, sym, ap, subst, ◌∙◌, inl, inr, arith, eq-eqb}
+use Rattle.std.proofs.Common.{◌≡◌, ◌≢◌, ◌≤◌, ◌<◌, ◌+◌, ◌==◌, ℕ, zero, suc, Bool, true, false, not, ◌||◌, cond, List, [], ◌∷◌, ◌++◌, length, get_or, nat_lt, IsTrue, refl, sym, ap, ◌∙◌, inl, inr, arith, eq-eqb}
 use Rattle.std.specs.List.{list_any, position_or_len, AllByRecursion}
-use Rattle.std.proofs.lemmas.Bool.{both_ways, cases_lt, cases_Bool, or_cases, or_left, or_right, eqb-true, lt-ltb, le-ltb, ne_eqb}
-use Rattle.small_net.proofs.Apart.{all_append, all_from}
+use Rattle.std.proofs.lemmas.Bool.{both_ways, cases_lt, cases_Bool, or_left, or_right, eqb-true, lt-ltb, le-ltb, ne_eqb}
+use Rattle.small_net.proofs.Apart.{all_append}
 
 -- no number is a later one
 abbrev pub Once : List ℕ → Type 0

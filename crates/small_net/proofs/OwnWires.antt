@@ -1,19 +1,17 @@
 -- The wires that are no bits of ports, and the order in which a written module declares all wires.
-use Rattle.std.proofs.Common.{◌≡◌, ◌≢◌, ◌≤◌, ◌<◌, ◌+◌, ◌==◌, ℕ, zero, suc, Bool, true, false, not, ◌||◌, cond, List, [], ◌∷◌, ◌++◌, length, map, filter, drop, sum_by, count_by, get_or, Option, Some, None, IsTrue, is_none, slice_get, slice_index_or, refl, sym, ap, ap₂, subst, ◌∙◌, inl, inr, arith, eq-eqb}
-use Rattle.std.specs.List.{AllByRecursion, flat_map, list_any, enumerate_from}
+use Rattle.std.proofs.Common.{◌≡◌, ◌≢◌, ◌≤◌, ◌<◌, ◌+◌, ◌==◌, ℕ, suc, Bool, true, false, cond, List, [], ◌∷◌, ◌++◌, length, map, filter, sum_by, get_or, Option, Some, None, is_none, slice_get, refl, sym, ap, subst, ◌∙◌, inl, inr, arith, eq-eqb}
+use Rattle.std.specs.List.{AllByRecursion, flat_map, enumerate_from}
 use Rattle.std.proofs.lemmas.Bool.{both_ways, cases_Bool, or_cases, or_left, or_right, or_parts, eqb-true}
-use Rattle.std.proofs.lemmas.List.{length-map, map-append, length-append}
+use Rattle.std.proofs.lemmas.List.{length-map, length-append}
 use Rattle.std.proofs.lemmas.List.Sums.{sum_by-cons}
-use Rattle.std.proofs.lemmas.Option.{slice_get_within, get_or_from_slice_get}
+use Rattle.std.proofs.lemmas.Option.{slice_get_within}
 use Rattle.agm_net.specs.Plain.{PlainNet}
 use Rattle.agm_net.specs.WellFormed.{WellFormed}
-use Rattle.small_text.specs.declared.small.Declaration.{Declaration}
 use Rattle.small_net.specs.declared.sites.Site.{Site}
-use Rattle.small_net.specs.States.{plain_bit}
 use Rattle.small_net.specs.Written.{wire_declaration}
-use Rattle.small_net.specs.Sites.{sites_of, site_at, bit_of}
+use Rattle.small_net.specs.Sites.{sites_of, site_at}
 use Rattle.small_net.specs.Netlist.{own_declaration}
-use Rattle.small_net.proofs.Apart.{all_append, all_from, all_both}
+use Rattle.small_net.proofs.Apart.{all_append, all_from}
 use Rattle.small_net.proofs.Order.{Once, has, IsOrder, once_append}
 use Rattle.small_net.proofs.Sited as sited
 

@@ -1,5 +1,5 @@
 -- A net whose wires are renumbered is a net.
-use Rattle.std.proofs.Common.{◌≡◌, ◌≢◌, ◌≤◌, ◌<◌, ◌+◌, ◌==◌, ℕ, zero, suc, Bool, true, false, ◌&&◌, cond, List, [], ◌∷◌, ◌++◌, length, map, filter, count_by, get_or, nat_lt, Option, Some, None, IsTrue, slice_get, refl, sym, ap, ap₂, subst, ◌∙◌, inl, inr, arith, eq-eqb}
+use Rattle.std.proofs.Common.{◌≡◌, ◌≢◌, ◌≤◌, ◌<◌, ◌+◌, ◌==◌, ℕ, zero, suc, Bool, true, false, ◌&&◌, cond, List, [], ◌∷◌, ◌++◌, length, map, filter, count_by, get_or, nat_lt, Some, IsTrue, slice_get, refl, sym, ap, ap₂, subst, ◌∙◌, inl, inr, arith, eq-eqb}
 use Rattle.std.specs.List.{AllByRecursion, flat_map, list_all}
 use Rattle.std.specs.Option.{option_map_or}
 use Rattle.std.proofs.lemmas.Bool.{both_ways, cases_lt, cases_Bool, and_parts, and_from, eqb-true, ltb-true, lt-ltb, false_from_ne_true}
@@ -7,7 +7,7 @@ use Rattle.std.proofs.lemmas.List.{map-append}
 use Rattle.std.proofs.lemmas.Option.{slice_get_within, slice_get-get_or}
 use Rattle.agm_net.specs.Formula.{Formula, f_zero, f_one, f_wire, f_not, f_and, f_or, f_xor, f_mux, reads_below}
 use Rattle.agm_net.specs.Plain.{Line, Stored, PlainNet, bit_names, is_input}
-use Rattle.agm_net.specs.WellFormed.{WellFormed, PortsAreRight, Differ, drivers, is_clock_port}
+use Rattle.agm_net.specs.WellFormed.{WellFormed, PortsAreRight, Differ, is_clock_port}
 use Rattle.agm_net.specs.Renumbered.{renumbered, renumbered_line, renumbered_register, renumbered_port, Renumbered}
 use Rattle.agm_net.specs.declared.port.Port.{Port}
 use Rattle.small_net.proofs.Apart.{all_by_place}

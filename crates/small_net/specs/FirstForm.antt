@@ -1,5 +1,5 @@
 -- The first form: the small texts that are masked, in two cases.
-use Rattle.std.specs.Prelude.{◌≡◌, ◌<◌, ◌++◌, ℕ, false, List, [], ◌∷◌, length, count_by, None, IsTrue, codes, nat_eq}
+use Rattle.std.specs.Prelude.{◌≡◌, ◌<◌, ◌++◌, ◌⊎◌, ℕ, false, List, [], ◌∷◌, length, count_by, None, IsTrue, codes, nat_eq}
 use Rattle.std.specs.List.{flat_map, AllByRecursion, starts_with}
 use Rattle.std.specs.Str.{bytes_eq}
 use Rattle.agm_net.specs.WellFormed.{Differ}
@@ -107,6 +107,6 @@ IsLinearForm s = IsGateForm s × AllByRecursion IsLinearCell s.items
 abbrev pub IsProductForm : Small → Type 0
 IsProductForm s = IsGateForm s × IsOneProduct s
 
--- The texts that are masked so far are those of the first case.
+-- a text of one of the two cases
 abbrev pub IsFirstForm : Small → Type 0
-IsFirstForm s = IsLinearForm s
+IsFirstForm s = IsLinearForm s ⊎ IsProductForm s

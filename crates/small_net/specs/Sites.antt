@@ -1,5 +1,5 @@
 -- Which wires are bits of ports, and the bit of each wire.
-use Rattle.std.specs.Prelude.{◌≤◌, ◌<◌, ◌∷◌, ℕ, List, [], length, map, fold, replicate, Option, Some, None, slice_get, slice_set, slice_index_or}
+use Rattle.std.specs.Prelude.{◌≤◌, ◌<◌, ℕ, List, [], length, map, fold, replicate, Option, Some, None, slice_get, slice_set, slice_index_or}
 use Rattle.std.specs.Int.{abs_diff}
 use Rattle.std.specs.List.{flat_map, enumerate_from}
 use Rattle.agm_net.specs.Checks.{number_at}

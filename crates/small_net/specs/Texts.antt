@@ -18,13 +18,9 @@ abbrev pub mark_at : Option ℕ → ℕ → Mark
 mark_at None k = Unmarked
 mark_at (Some c) k = cond (c == k) Clock Unmarked
 
--- the bytes are a text of this form, and state a net whose ports have these marks
-abbrev pub StatesBy : (Small → Type 0) → List ℕ → PlainNet → List Mark → Type 0
-StatesBy Form bytes net marks = (s : Small) × Spelled bytes s × Form s × States s net marks
-
--- the bytes are a text of the first form as it is masked so far, and state a net whose ports have these marks
+-- the bytes are a text of the first form, and state a net whose ports have these marks
 abbrev pub StatesFirst : List ℕ → PlainNet → List Mark → Type 0
-StatesFirst = StatesBy IsFirstForm
+StatesFirst bytes net marks = (s : Small) × Spelled bytes s × IsFirstForm s × States s net marks
 
 -- a module of this case states the net, whose ports have the marks
 abbrev pub IsCaseOf : Small → Case → Type 0
@@ -34,10 +30,6 @@ IsCaseOf s (Product x) = IsProductForm s × States s (plain_of x.net) x.marks.ki
 -- a text of this case states the net, whose ports have the marks
 abbrev pub StatesCase : List ℕ → Case → Type 0
 StatesCase bytes case = (s : Small) × Spelled bytes s × IsCaseOf s case
-
--- a module of neither case
-abbrev pub IsNoCase : Small → Type 0
-IsNoCase s = (IsLinearForm s → Prim.⊥) × (IsProductForm s → Prim.⊥)
 
 -- the marks of a net's ports in a text that is written for it: the clock's port is marked so, and no other port has a mark
 abbrev pub written_marks : PlainNet → List Mark

@@ -5,7 +5,7 @@ ghost use Rattle.small_text.specs.Grammar.{Spelled};
 ghost use Rattle.small_net.specs.States.{States};
 ghost use Rattle.small_net.specs.First.{is_gate_form, AreParts};
 ghost use Rattle.small_net.specs.FirstForm.{IsGateForm, IsFirstForm};
-ghost use Rattle.small_net.specs.Texts.{StatesFirst, StatesCase, IsCaseOf, IsNoCase};
+ghost use Rattle.small_net.specs.Texts.{StatesCase, IsCaseOf};
 
 use crate::case::{is_linear, is_one_product};
 use crate::cells::{equations_of, has_instances, has_order};
@@ -86,7 +86,7 @@ fn gates_of(alloc: Global, small: &Small) -> Result<Option<Original>, Memory>
 ///
 /// `Memory` where memory runs out.
 pub fn case_of(alloc: Global, small: &Small) -> Result<Option<Case>, Memory>
-    ensures { IfOk result (λ o. MatchOption o (IsNoCase small.now) (IsCaseOf small.now)) }
+    ensures { IfOk result (λ o. MatchOption o (IsFirstForm small.now → ⊥) (IsCaseOf small.now)) }
 {
     let found = gates_of(alloc, small)?;
     match found {
@@ -109,7 +109,7 @@ pub fn case_of(alloc: Global, small: &Small) -> Result<Option<Case>, Memory>
 ///
 /// `Memory` where memory runs out.
 pub fn read_case(alloc: Global, bytes: &[u8]) -> Result<Option<Case>, Memory>
-    ensures { IfOk result (λ o. MatchOption o ((s : Small) → Spelled bytes.now s → IsNoCase s) (StatesCase bytes.now)) }
+    ensures { IfOk result (λ o. MatchOption o ((s : Small) → Spelled bytes.now s → IsFirstForm s → ⊥) (StatesCase bytes.now)) }
 {
     one_small();
     let Some(small) = read_small(alloc, bytes)? else {
@@ -118,21 +118,5 @@ pub fn read_case(alloc: Global, bytes: &[u8]) -> Result<Option<Case>, Memory>
     match case_of(alloc, &small)? {
         None => Ok(None),
         Some(case) => Ok(Some(case)),
-    }
-}
-
-/// The net that a text of the first form states, as it is masked so far: of the first case. None exactly where the bytes are no such
-/// text.
-///
-/// # Errors
-///
-/// `Memory` where memory runs out.
-pub fn read_first(alloc: Global, bytes: &[u8]) -> Result<Option<Original>, Memory>
-    ensures { IfOk result (λ o. MatchOption o ((s : Small) → Spelled bytes.now s → IsFirstForm s → ⊥) (λ x. StatesFirst bytes.now (plain_of x.net) x.marks.kinds)) }
-{
-    one_small();
-    match read_case(alloc, bytes)? {
-        Some(Case::Linear(original)) => Ok(Some(original)),
-        _ => Ok(None),
     }
 }

@@ -12,11 +12,9 @@ mod original;
 mod plain;
 mod ports;
 mod sites;
-#[cfg(test)]
-mod tests;
 mod write;
 
-pub use first::{case_of, read_case, read_first};
-pub use laws::{first_is_simple, gates_state, product_is_one};
+pub use first::{case_of, read_case};
+pub use laws::{gates_state, linear_is_simple, product_is_one};
 pub use original::{Case, Original};
-pub use write::{write_net, write_small_net, written_states};
+pub use write::write_small_net;

@@ -1,7 +1,7 @@
 use Rattle.std.proofs.Common.{sym, ap, ◌∙◌}
 use Rattle.std.specs.List.{list_all}
 use Rattle.small_net.specs.First.{is_linear_cell}
-use Rattle.small_net.proofs.Cases.{linear_told, linear_refused, product_told, product_refused}
+use Rattle.small_net.proofs.Cases.{linear_told, linear_refused, product_told, product_refused, neither}
 use Rattle.small_net.proofs.first.case_of.Goals as goal
 
 pub returns-then-is_linear : goal.returns-then-is_linear
@@ -18,4 +18,4 @@ returns-then-is_one_product c =
 pub returns-else-is_one_product : goal.returns-else-is_one_product
 returns-else-is_one_product c =
     let test = sym (ap (λ items. list_all is_linear_cell items) c.as_slice.ensures) ∙ (sym c.is_linear.ensures ∙ c.if-is_linear.false) in
-    (linear_refused c.args.small.now test, product_refused c.args.small.now (sym c.is_one_product.ensures ∙ c.if-is_one_product.false))
+    neither c.args.small.now (linear_refused c.args.small.now test) (product_refused c.args.small.now (sym c.is_one_product.ensures ∙ c.if-is_one_product.false))

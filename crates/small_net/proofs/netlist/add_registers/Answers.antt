@@ -1,4 +1,4 @@
-use Rattle.std.proofs.Common.{◌≡◌, ◌++◌, ◌∷◌, [], ◌+◌, map, take, length, ap, get_or, ◌∙◌, append_assoc, sym}
+use Rattle.std.proofs.Common.{◌≡◌, ◌++◌, ◌∷◌, [], ◌+◌, map, take, ap, append_assoc}
 use Rattle.std.specs.List.{enumerate_from}
 use Rattle.agm_net.specs.Plain.{stored_of}
 use Rattle.agm_net.specs.View.{plain_of}

@@ -1,4 +1,4 @@
-use Rattle.std.proofs.Common.{◌≡◌, [], ◌++◌, ◌<◌, take, length, get_or, append_assoc, subst, ap, ap₂, sym, ◌∙◌}
+use Rattle.std.proofs.Common.{◌≡◌, ◌++◌, ◌<◌, take, length, get_or, append_assoc, subst, ap, ap₂, sym, ◌∙◌}
 use Rattle.std.specs.List.{enumerate_from, flat_map}
 use Rattle.small_net.specs.Netlist.{own_declaration}
 use Rattle.small_net.proofs.Numbered.{flat_map_more}

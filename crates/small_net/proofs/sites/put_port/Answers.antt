@@ -1,6 +1,5 @@
-use Rattle.std.proofs.Common.{◌≡◌, ◌<◌, fold, map, take, length, get_or, sym, subst}
-use Rattle.std.specs.List.{enumerate_from}
-use Rattle.small_net.specs.Sites.{bit_site, put, index_at}
+use Rattle.std.proofs.Common.{◌<◌, length, subst}
+use Rattle.small_net.specs.Sites.{bit_site, put}
 use Rattle.small_net.proofs.Numbered.{fold_map_more}
 use Rattle.small_net.proofs.sites.put_port.Goals as goal
 

@@ -1,5 +1,4 @@
-use Rattle.std.proofs.Common.{◌≡◌, fold, take, get_or}
-use Rattle.small_net.specs.Sites.{port_sites, all_sites, put}
+use Rattle.small_net.specs.Sites.{port_sites, put}
 use Rattle.small_net.proofs.Numbered.{fold_flat_map_more}
 use Rattle.small_net.proofs.sites.put_ports.Goals as goal
 

@@ -1,4 +1,4 @@
-use Rattle.small_net.proofs.laws.first_is_simple.Goals as goal
+use Rattle.small_net.proofs.laws.linear_is_simple.Goals as goal
 use Rattle.small_net.proofs.FirstSimple.{linear_is_simple}
 
 pub returns : goal.returns
