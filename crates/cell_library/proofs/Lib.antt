@@ -5,6 +5,7 @@ mod Folds
 mod Groups
 mod LibrarySteps
 mod Lists
+mod Kept
 mod Names
 mod Opens
 mod Says

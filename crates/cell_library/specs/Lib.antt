@@ -1,6 +1,7 @@
 pub mod Texts
 pub mod Read
 pub mod Judged
+pub mod Kept
 pub mod Spelled
 pub mod Steps
 pub mod View

@@ -1,8 +1,10 @@
-ghost use Rattle.std.specs.Prelude.{◌≡◌, ◌++◌, ◌∷◌, [], Some, None, cond, map, IfOk};
+ghost use Rattle.std.specs.Prelude.{◌≡◌, ◌++◌, ◌∷◌, [], true, Some, None, cond, map, IfOk};
+ghost use Rattle.std.specs.List.{list_all};
 ghost use Rattle.std.specs.Option.{option_map};
 ghost use Rattle.cell_library.specs.declared.types.CellCause.TheVariants.{Duplicate, Reserved};
 ghost use Rattle.cell_library.specs.Found.{cell_by, raw_name};
-ghost use Rattle.cell_library.specs.Spelled.{name_fault, is_reserved as reserved};
+ghost use Rattle.cell_library.specs.Kept.{is_kept};
+ghost use Rattle.cell_library.specs.Spelled.{cell_of, first_fault, name_fault, is_reserved as reserved};
 
 use crate::scope::add;
 use crate::types::{Cell, CellCause};
@@ -10,12 +12,16 @@ use agm_bits::{List, Memory, Name};
 use name_table::Names;
 use std::alloc::Global;
 
-/// The cells of a library, in the order of the text.
+/// The cells of a library, in the order of the text. Their names differ, and none begins with `AGM_`. One that is barred has no pins and
+/// no state. In every other the pins have different names, each output pin has a function, the clock is an input pin, and functions and
+/// the next state read nothing but input pins and, where there is one, the state.
 #[derive(Debug, Drop)]
 pub struct Library {
     pub cells: List<Cell>,
     names: Names,
     ghost tied: { names ≡ map raw_name cells },
+    ghost named: { first_fault [] (map raw_name cells) ≡ None },
+    ghost kept: { list_all is_kept (map cell_of cells) ≡ true },
 }
 
 impl Library {
@@ -31,7 +37,9 @@ impl Library {
 
     // A library of these cells, which have these names.
     pub(crate) fn new(cells: List<Cell>, names: Names) -> Library
-        requires { names ≡ map raw_name cells }
+        requires tied { names ≡ map raw_name cells }
+        requires named { first_fault [] (map raw_name cells) ≡ None }
+        requires kept { list_all is_kept (map cell_of cells) ≡ true }
         ensures { result.cells ≡ cells }
     {
         Library { cells, names }
