@@ -19,8 +19,9 @@ pub(crate) const HELP: &str =
   for example:  agema mask - examples/parity.v 1 naive pipe parity_masked.v
 
     It prints one line: order, mode, balance, gadgets, random bits a cycle, latency and period in cycles, streams.
-    Built so far: - as LIB, naive and pipe, and netlists of AGM_NOT and AGM_XOR2 cells, in an order in which each
-    cell reads inputs and cells before it, every input secure (docs/FORMATS.md, \"The first form\").
+    Built so far: naive and pipe, and netlists of AGM_NOT and AGM_XOR2 cells, in an order in which each cell reads
+    inputs and cells before it, or of one AGM_AND2 cell, every input secure (docs/FORMATS.md, \"The first form\").
+    So no netlist uses the cells of LIB yet; it is read, and refused where it is no library.
 
   agema --help       prints this
   agema --version    prints the version
@@ -34,6 +35,8 @@ exit status
    6  standard output could not be written
    7  a word of the command line is not text
   10  a file is longer than 268,435,456 bytes
+  11  the cell library is spelled wrongly
+  13  a cell of the library has the name of an earlier one, or one that begins with AGM_
   23  the design is too large: its operators times shares squared exceed 65,536
   31  what is asked for is not built yet
 

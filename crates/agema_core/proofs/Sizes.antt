@@ -4,6 +4,8 @@ use Rattle.std.specs.List.{AllByRecursion}
 use Rattle.agm_net.specs.Formula.{Formula, f_wire, f_not, f_xor}
 use Rattle.agm_net.specs.Plain.{Line, PlainNet}
 use Rattle.agm_net.specs.Simple.{IsLinear}
+use Rattle.agm_net.specs.declared.mark.Mark.{Mark}
+use Rattle.agema_core.specs.Masks.{IsServed}
 use Rattle.agema_core.specs.Operators.{operators, operators_of}
 use Rattle.std.proofs.lemmas.List.Sums.{sum_by-cons}
 use Rattle.std.proofs.Math.Nat.{mul-le-mul_left}
@@ -53,8 +55,12 @@ few ((w, f) ∷ ls) h =
     let rest = few ls h.1 in
     let sum = sum_by-cons (λ (l : Line). operators l.1) (w, f) ls in omega arith
 
--- a linear net has one operator in each equation at the most
-pub linear_few : (net : PlainNet) → AllByRecursion (λ l. IsLinear l.1) net.lines → net.registers ≡ [] → operators_of net ≤ length net.lines
-linear_few net linear none =
-    let lines = few net.lines linear in
-    let stored : sum_by (λ r. operators r.next) net.registers ≡ 0 = ap (sum_by (λ r. operators r.next)) none in omega arith
+-- a net that is masked so far has one operator in each equation at the most
+pub served_few : (net : PlainNet) (marks : List Mark) → IsServed net marks → operators_of net ≤ length net.lines
+served_few net marks (inl simple) =
+    let lines = few net.lines simple.linear in
+    let stored : sum_by (λ r. operators r.next) net.registers ≡ 0 = ap (sum_by (λ r. operators r.next)) simple.no_register in omega arith
+served_few net marks (inr product) =
+    let lines : sum_by (λ l. operators l.1) net.lines ≡ 1 = ap (λ ls. sum_by (λ (l : Line). operators l.1) ls) product.product in
+    let many : length net.lines ≡ 1 = ap (λ ls. length ls) product.product in
+    let stored : sum_by (λ r. operators r.next) net.registers ≡ 0 = ap (sum_by (λ r. operators r.next)) product.else_simple.no_register in omega arith

@@ -1,17 +1,19 @@
 -- When each answer of a run comes, and what it leaves.
-use Rattle.std.specs.Prelude.{◌≡◌, ◌≢◌, ◌≤◌, ◌<◌, ◌⊎◌, ◌++◌, ℕ, List, Bool, IsTrue, Option, Some, None, length, codes}
+use Rattle.std.specs.Prelude.{◌≡◌, ◌≢◌, ◌≤◌, ◌<◌, ◌⊎◌, ◌++◌, ℕ, List, [], Bool, IsTrue, Option, Some, None, length, map, codes}
 use Rattle.agm_shelf.specs.Shelf.{Rose, Contents, AllStay, IsFrontOrOld, TakesFront, text_of}
+use Rattle.cell_library.specs.Judged.{PlainCell}
+use Rattle.cell_library.specs.Spelled.{Spelled, cell_name, first_fault}
+use Rattle.cell_library.specs.declared.types.CellCause.{CellCause}
 use Rattle.share_wiring.specs.declared.report.Mode.TheVariants.{Naive}
 use Rattle.share_wiring.specs.declared.report.Balance.TheVariants.{Pipe}
 use Rattle.agema_core.specs.Words.{Mask}
 use Rattle.agema_core.specs.Masks.{Masks, CanMask, IsNotFirst, IsTooLarge, length_limit, report_name}
 use Rattle.agema_core.specs.declared.ended.Ended.{Ended}
 use Rattle.agema_core.specs.declared.ended.Ended.TheVariants.{Done, Usage, ReadFault, WriteFault, PrintFault, Memory, Refused}
-use Rattle.agema_core.specs.declared.ended.Refusal.TheVariants.{TooLong, TooLarge, NotBuilt}
+use Rattle.agema_core.specs.declared.ended.Refusal.TheVariants.{TooLong, LibrarySyntax, Cell, TooLarge, NotBuilt}
 
--- the words ask for what is built: no library, naive mode, pipelines
+-- the words ask for what is built: naive mode, pipelines
 pub record IsBuilt (m : Mask) : Type 0 where
-  pub library_is : m.library ≡ codes "-"
   pub mode_is : m.mode ≡ Naive
   pub balance_is : m.balance ≡ Pipe
 
@@ -24,16 +26,17 @@ pub record Counts : Type 0 where
 abbrev pub counts : (reads writes prints : ℕ) → Counts
 counts reads writes prints = record { reads = reads; writes = writes; prints = prints }
 
--- What a command finds: whether the shelf tells its contents and whether it is sound, whether the sink is sound, and what the
--- netlist's name holds.
+-- What a command finds: whether the shelf tells its contents and whether it is sound, whether the sink is sound, and what the names of
+-- the library and of the netlist hold.
 pub record Found : Type 0 where
   pub tells : Bool
   pub sound : Bool
   pub prints : Bool
+  pub library : Option (List ℕ)
   pub held : Option (List ℕ)
 
-abbrev pub found : (tells sound prints : Bool) → Option (List ℕ) → Found
-found tells sound prints held = record { tells = tells; sound = sound; prints = prints; held = held }
+abbrev pub found : (tells sound prints : Bool) → (library held : Option (List ℕ)) → Found
+found tells sound prints library held = record { tells = tells; sound = sound; prints = prints; library = library; held = held }
 
 -- a text is held, of which this is true
 abbrev pub Holds : Option (List ℕ) → (List ℕ → Type 0) → Type 0
@@ -59,17 +62,76 @@ IsTooLong text = length_limit < length text
 abbrev pub IsFit : Mask → List ℕ → Type 0
 IsFit m text = (length text ≤ length_limit) × CanMask text m.order
 
--- When each answer may come, for the words m and what was found. Each refusal of a text yields to a read fault and to want of memory.
+-- this word of a command stands for no library
+abbrev pub IsDash : List ℕ → Type 0
+IsDash name = name ≡ codes "-"
+
+-- the text is not too long, and spells cells whose names are neither repeated nor reserved
+abbrev pub IsLibrary : List ℕ → Type 0
+IsLibrary text = (length text ≤ length_limit) × (cells : List PlainCell) × Spelled text cells × (first_fault [] (map cell_name cells) ≡ None)
+
+-- the text is not too long, and spells no cells; the place is in it or its end
+abbrev pub IsNoLibrary : (at : ℕ) → List ℕ → Type 0
+IsNoLibrary at text = (length text ≤ length_limit) × ((cells : List PlainCell) → Spelled text cells → Prim.⊥) × (at ≤ length text)
+
+-- the text is not too long, and spells cells, of which this is the first whose name is repeated or reserved
+abbrev pub HasWrongCell : List ℕ → CellCause → List ℕ → Type 0
+HasWrongCell name cause text =
+    (length text ≤ length_limit) × (cells : List PlainCell) × Spelled text cells × (first_fault [] (map cell_name cells) ≡ Some (name, cause))
+
+-- no library is asked for, or the shelf tells that its text is one
+abbrev pub HasLibrary : List ℕ → (tells : Bool) → Option (List ℕ) → Type 0
+HasLibrary name tells held = IsDash name ⊎ Told tells held IsLibrary
+
+-- how the reading of a file may end without a text
+abbrev pub IsReadEnd : List ℕ → (tells sound : Bool) → Option (List ℕ) → (before now : ℕ) → Ended → Type 0
+IsReadEnd name tells sound held before now (ReadFault file) = (file ≡ name) × ReadFails sound held before now
+IsReadEnd name tells sound held before now Memory = Unit {0}
+IsReadEnd name tells sound held before now (Refused (TooLong file)) = (file ≡ name) × Told tells held IsTooLong
+IsReadEnd name tells sound held before now _ = Prim.⊥
+
+-- how the reading of a library may end a run
+abbrev pub IsLibraryEnd : List ℕ → (tells sound : Bool) → Option (List ℕ) → (before now : ℕ) → Ended → Type 0
+IsLibraryEnd name tells sound held before now (ReadFault file) = (file ≡ name) × ReadFails sound held before now
+IsLibraryEnd name tells sound held before now Memory = Unit {0}
+IsLibraryEnd name tells sound held before now (Refused (TooLong file)) = (file ≡ name) × Told tells held IsTooLong
+IsLibraryEnd name tells sound held before now (Refused (LibrarySyntax at)) = Told tells held (IsNoLibrary at)
+IsLibraryEnd name tells sound held before now (Refused (Cell cell cause)) = Told tells held (HasWrongCell cell cause)
+IsLibraryEnd name tells sound held before now _ = Prim.⊥
+
+-- the same of the bytes of a library that was read, and of a library's name and a netlist's
+abbrev pub IsWrongLibrary : List ℕ → Ended → Type 0
+IsWrongLibrary text (Refused (LibrarySyntax at)) = IsNoLibrary at text
+IsWrongLibrary text (Refused (Cell cell cause)) = HasWrongCell cell cause text
+IsWrongLibrary text Memory = Unit {0}
+IsWrongLibrary text _ = Prim.⊥
+
+abbrev pub IsInputEnd : (name net : List ℕ) → (tells sound : Bool) → (library held : Option (List ℕ)) → (before now : ℕ) → Ended → Type 0
+IsInputEnd name net tells sound library held before now ended =
+    ((IsDash name → Prim.⊥) × IsLibraryEnd name tells sound library before now ended)
+    ⊎ (HasLibrary name tells library × IsReadEnd net tells sound held before now ended)
+
+-- How a run may end that has come to the netlist. Each refusal of the text yields to a read fault and to want of memory.
+abbrev pub IsNetEnd : Mask → Found → (before now : Counts) → Ended → Type 0
+IsNetEnd m f before now Done = Told f.tells f.held (IsFit m)
+IsNetEnd m f before now Usage = Prim.⊥
+IsNetEnd m f before now (ReadFault file) = (file ≡ m.net) × ReadFails f.sound f.held before.reads now.reads
+IsNetEnd m f before now (WriteFault file) = Told f.tells f.held (IsFit m) × ((file ≡ m.out) ⊎ (file ≡ report_name m.out)) × Fails f.sound before.writes now.writes
+IsNetEnd m f before now PrintFault = Told f.tells f.held (IsFit m) × Fails f.prints before.prints now.prints
+IsNetEnd m f before now Memory = Unit {0}
+IsNetEnd m f before now (Refused (TooLong file)) = (file ≡ m.net) × Told f.tells f.held IsTooLong
+IsNetEnd m f before now (Refused (LibrarySyntax at)) = Prim.⊥
+IsNetEnd m f before now (Refused (Cell name cause)) = Prim.⊥
+IsNetEnd m f before now (Refused (TooLarge operators)) = Told f.tells f.held (λ text. (length text ≤ length_limit) × IsTooLarge text m.order operators)
+IsNetEnd m f before now (Refused NotBuilt) = Told f.tells f.held (λ text. (length text ≤ length_limit) × IsNotFirst text)
+
+-- When each answer may come, for the words m and what was found: at the words, at the library where one is named, or behind it. Each
+-- refusal at the library yields to a read fault and to want of memory.
 abbrev pub HasCause : Mask → Found → (before now : Counts) → Ended → Type 0
-HasCause m f before now Done = IsBuilt m × Told f.tells f.held (IsFit m)
-HasCause m f before now Usage = Prim.⊥
-HasCause m f before now (ReadFault file) = IsBuilt m × (file ≡ m.net) × ReadFails f.sound f.held before.reads now.reads
-HasCause m f before now (WriteFault file) = IsBuilt m × Told f.tells f.held (IsFit m) × ((file ≡ m.out) ⊎ (file ≡ report_name m.out)) × Fails f.sound before.writes now.writes
-HasCause m f before now PrintFault = IsBuilt m × Told f.tells f.held (IsFit m) × Fails f.prints before.prints now.prints
-HasCause m f before now Memory = IsBuilt m
-HasCause m f before now (Refused (TooLong file)) = IsBuilt m × (file ≡ m.net) × Told f.tells f.held IsTooLong
-HasCause m f before now (Refused (TooLarge operators)) = IsBuilt m × Told f.tells f.held (λ text. (length text ≤ length_limit) × IsTooLarge text m.order operators)
-HasCause m f before now (Refused NotBuilt) = (IsBuilt m → Prim.⊥) ⊎ Told f.tells f.held (λ text. (length text ≤ length_limit) × IsNotFirst text)
+HasCause m f before now ended =
+    ((IsBuilt m → Prim.⊥) × (ended ≡ Refused NotBuilt))
+    ⊎ (IsBuilt m × (IsDash m.library → Prim.⊥) × IsLibraryEnd m.library f.tells f.sound f.library before.reads now.reads ended)
+    ⊎ (IsBuilt m × HasLibrary m.library f.tells f.library × IsNetEnd m f before now ended)
 
 -- no count of faults rose
 pub record NoneRose (before now : Counts) : Type 0 where
@@ -81,10 +143,11 @@ pub record NoneRose (before now : Counts) : Type 0 where
 abbrev pub NothingFails : Found → (before now : Counts) → Type 0
 NothingFails f before now = (IsTrue f.tells × NoneRose before now) ⊎ (IsTrue f.sound × IsTrue f.prints)
 
--- Completeness: where the words ask for what is built, the netlist's name holds a text that fits, and nothing fails, the netlist is
--- masked, or memory is wanted.
+-- Completeness: where the words ask for what is built, LIB is `-` or its name holds a library, the netlist's name holds a text that
+-- fits, and nothing fails, the netlist is masked, or memory is wanted.
 abbrev pub IsComplete : Mask → Found → (before now : Counts) → Ended → Type 0
-IsComplete m f before now ended = IsBuilt m → Holds f.held (IsFit m) → NothingFails f before now → (ended ≡ Done) ⊎ (ended ≡ Memory)
+IsComplete m f before now ended =
+    IsBuilt m → IsDash m.library ⊎ Holds f.library IsLibrary → Holds f.held (IsFit m) → NothingFails f before now → (ended ≡ Done) ⊎ (ended ≡ Memory)
 
 -- the program's exit status for each answer
 abbrev pub status_of : Ended → ℕ
@@ -95,6 +158,8 @@ status_of (WriteFault file) = 4
 status_of Memory = 5
 status_of PrintFault = 6
 status_of (Refused (TooLong file)) = 10
+status_of (Refused (LibrarySyntax at)) = 11
+status_of (Refused (Cell name cause)) = 13
 status_of (Refused (TooLarge operators)) = 23
 status_of (Refused NotBuilt) = 31
 
@@ -124,13 +189,6 @@ IsDelivery out sound prints w0 w1 p0 p1 (WriteFault file) = ((file ≡ out) ⊎ 
 IsDelivery out sound prints w0 w1 p0 p1 PrintFault = Fails prints p0 p1
 IsDelivery out sound prints w0 w1 p0 p1 Memory = Unit {0}
 IsDelivery out sound prints w0 w1 p0 p1 _ = Prim.⊥
-
--- how the reading of the netlist may end without a text
-abbrev pub IsReadEnd : List ℕ → (tells sound : Bool) → Option (List ℕ) → (before now : ℕ) → Ended → Type 0
-IsReadEnd net tells sound held before now (ReadFault file) = (file ≡ net) × ReadFails sound held before now
-IsReadEnd net tells sound held before now Memory = Unit {0}
-IsReadEnd net tells sound held before now (Refused (TooLong file)) = (file ≡ net) × Told tells held IsTooLong
-IsReadEnd net tells sound held before now _ = Prim.⊥
 
 -- names other than the two outputs hold what they held
 abbrev pub OthersKeep : List ℕ → Contents → Contents → Type 0

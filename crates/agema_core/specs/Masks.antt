@@ -1,6 +1,8 @@
 -- What `mask` writes for a netlist.
-use Rattle.std.specs.Prelude.{◌≡◌, ◌≤◌, ◌<◌, ◌++◌, ℕ, List, codes}
+use Rattle.std.specs.Prelude.{◌≡◌, ◌≤◌, ◌<◌, ◌++◌, ◌*◌, ◌⊎◌, ℕ, Bool, true, false, List, length, filter, codes}
+use Rattle.agm_net.specs.Formula.{Formula, f_and}
 use Rattle.agm_net.specs.Plain.{PlainNet}
+use Rattle.agm_net.specs.Simple.{IsSimple, IsProduct}
 use Rattle.agm_net.specs.declared.mark.Mark.{Mark}
 use Rattle.share_wiring.specs.declared.report.Report.{Report}
 use Rattle.share_wiring.specs.declared.report.Mode.TheVariants.{Naive}
@@ -23,13 +25,29 @@ size_limit = 65536
 abbrev pub length_limit : ℕ
 length_limit = 268435456
 
+-- the nets that are masked so far: simple ones, and those of one product
+abbrev pub IsServed : PlainNet → List Mark → Type 0
+IsServed net marks = IsSimple net marks ⊎ IsProduct net marks
+
+abbrev pub is_product : Formula → Bool
+is_product (f_and x y) = true
+is_product _ = false
+
+-- each product takes a gadget
+abbrev pub gadgets_of : PlainNet → ℕ
+gadgets_of net = length (filter (λ l. is_product l.1) net.lines)
+
+-- a gadget takes two cycles, and no net that is masked so far has two
+abbrev pub latency_of : PlainNet → ℕ
+latency_of net = 2 * gadgets_of net
+
 -- What is written for an original: OUT is a small text that states a masked net, which computes what the original does; the report's
 -- file and the printed line are those of a report of the original.
 pub record MasksNet (original : PlainNet) (marks : List Mark) (order : ℕ) (out file line : List ℕ) : Type 0 where
   pub masked : PlainNet
   pub report : Report
   pub is_written : StatesNet out masked
-  pub reported : ReportOf original marks order Naive Pipe 0 0 report
+  pub reported : ReportOf original marks order Naive Pipe (gadgets_of original) (latency_of original) report
   pub file_is : file ≡ report_text report
   pub line_is : line ≡ mask_line report
   pub same : Same original marks report masked

@@ -1,7 +1,9 @@
 ghost use Rattle.std.specs.Prelude.{◌≡◌, ◌++◌, IfOk, codes};
 ghost use Rattle.std.specs.Fmt.{decimal};
+ghost use Rattle.agema_core.specs.Explained.{cause_text};
 
 use agm_bits::{Memory, Name};
+use cell_library::CellCause;
 use std::alloc::Global;
 
 /// How a run ended.
@@ -28,6 +30,10 @@ pub enum Ended {
 pub enum Refusal {
     /// A file is longer than 2^28 bytes.
     TooLong { file: Name },
+    /// The cell library is spelled wrongly. `at` is at most its length.
+    LibrarySyntax { at: usize },
+    /// The cell library's first cell whose name is wrong.
+    Cell { name: Name, cause: CellCause },
     /// The operators of the net times shares squared exceed 2^16.
     TooLarge { operators: usize },
     /// It asks for what isn't built yet.
@@ -52,6 +58,35 @@ fn size_line(alloc: Global, operators: usize) -> Result<Name, Memory>
     Name::from_slice(alloc, line.as_bytes())
 }
 
+// The line of a cell library that is spelled wrongly.
+fn syntax_line(alloc: Global, at: usize) -> Result<Name, Memory>
+    ensures { IfOk result (λ line. line ≡ codes "status 11 LibrarySyntax at=" ++ (decimal at ++ codes "\n")) }
+{
+    let line = format!(in alloc; "status 11 LibrarySyntax at={at}\n")?;
+    Name::from_slice(alloc, line.as_bytes())
+}
+
+// What is wrong with a cell's name, and the end of the line.
+fn cause_end(cause: CellCause) -> &'static [u8]
+    ensures { result.now ≡ cause_text cause ++ codes "\n" }
+{
+    match cause {
+        CellCause::Duplicate => b"Duplicate\n",
+        CellCause::Reserved => b"Reserved\n",
+    }
+}
+
+// The line of a cell whose name is wrong.
+fn cell_line(alloc: Global, name: &Name, cause: CellCause) -> Result<Name, Memory>
+    ensures { IfOk result (λ line. line ≡ codes "status 13 Cell name=" ++ (name.now ++ (codes " cause=" ++ (cause_text cause ++ codes "\n")))) }
+{
+    let mut line = Name::from_slice(alloc, b"status 13 Cell name=")?;
+    line.extend(name.as_slice())?;
+    line.extend(b" cause=")?;
+    line.extend(cause_end(cause))?;
+    Ok(line)
+}
+
 impl Ended {
     ghost use Rattle.agema_core.specs.Answer.{status_of};
     ghost use Rattle.agema_core.specs.Explained.{explained};
@@ -68,6 +103,8 @@ impl Ended {
             Ended::Memory => 5,
             Ended::PrintFault => 6,
             Ended::Refused(Refusal::TooLong { .. }) => 10,
+            Ended::Refused(Refusal::LibrarySyntax { .. }) => 11,
+            Ended::Refused(Refusal::Cell { .. }) => 13,
             Ended::Refused(Refusal::TooLarge { .. }) => 23,
             Ended::Refused(Refusal::NotBuilt) => 31,
         }
@@ -87,6 +124,8 @@ impl Ended {
             Ended::Refused(Refusal::TooLong { file }) => {
                 file_line(alloc, b"status 10 TooLong file=", file)
             }
+            Ended::Refused(Refusal::LibrarySyntax { at }) => syntax_line(alloc, *at),
+            Ended::Refused(Refusal::Cell { name, cause }) => cell_line(alloc, name, *cause),
             Ended::Refused(Refusal::TooLarge { operators }) => size_line(alloc, *operators),
             Ended::Refused(Refusal::NotBuilt) => Name::from_slice(alloc, b"status 31 NotBuilt\n"),
         }

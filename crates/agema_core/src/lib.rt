@@ -6,8 +6,6 @@ mod line;
 mod masked;
 mod program;
 mod size;
-#[cfg(test)]
-mod tests;
 mod words;
 
 pub use ended::{Ended, Refusal};

@@ -3,13 +3,14 @@ ghost use Rattle.agm_shelf.specs.Shelf.{AllStay, OthersStay, Continues, IsFrontO
 ghost use Rattle.agema_core.specs.Words.{Mask, IsMask, IsOrder};
 ghost use Rattle.agema_core.specs.Command.{mask_of};
 ghost use Rattle.agema_core.specs.Masks.{report_name, length_limit};
-ghost use Rattle.agema_core.specs.Answer.{HasCause, IsBuilt, IsWriteEnd, IsWritesEnd, IsReadEnd, IsPrintEnd, IsDelivery, Leaves, LeftWhole, LeftPart, HasLeft, LeavesAll, OthersKeep, IsUntouched, IsComplete, counts, found};
+ghost use Rattle.agema_core.specs.Answer.{HasCause, IsBuilt, IsDash, IsLibrary, IsWrongLibrary, HasLibrary, IsLibraryEnd, IsInputEnd, IsWriteEnd, IsWritesEnd, IsReadEnd, IsPrintEnd, IsDelivery, Leaves, LeftWhole, LeftPart, HasLeft, LeavesAll, OthersKeep, IsUntouched, IsComplete, counts, found};
 
 use crate::ended::{Ended, Refusal};
 use crate::masked::{Masking, Texts, masked_texts, one_original};
 use crate::words::{Command, read_command};
 use agm_bits::{Memory, Name};
 use agm_shelf::{PutEnd, ReadEnd, Shelf, Sink, write_whole};
+use cell_library::{LibraryFault, one_library, read_library};
 use share_wiring::{Balance, Mode};
 use std::alloc::Global;
 
@@ -57,8 +58,7 @@ fn report_file(alloc: Global, out: &str) -> Result<String, Memory>
 fn is_built(command: &Command<'_>) -> bool
     ensures { IsTrue result ↔ IsBuilt (mask_of command.now) }
 {
-    command.library == "-"
-        && (matches!(command.mode, Mode::Naive) && matches!(command.balance, Balance::Pipe))
+    matches!(command.mode, Mode::Naive) && matches!(command.balance, Balance::Pipe)
 }
 
 // Writes one of the files.
@@ -114,22 +114,81 @@ fn print_line<K: Sink>(sink: &mut K, line: &str) -> Ended
     }
 }
 
-// Reads the netlist.
-fn read_netlist<H: Shelf>(alloc: Global, shelf: &mut H, net: &str) -> Result<Vec<u8>, Ended>
+// Reads a file.
+fn read_file<H: Shelf>(alloc: Global, shelf: &mut H, name: &str) -> Result<Vec<u8>, Ended>
     requires { H.pending shelf.old ≡ None }
     ensures pending { H.pending shelf.new ≡ None }
-    ensures ok { IfOk result (λ v. IsTrue (H.tells shelf.old) → H.holds shelf.old net.now ≡ Some v.items) }
+    ensures ok { IfOk result (λ v. IsTrue (H.tells shelf.old) → H.holds shelf.old name.now ≡ Some v.items) }
     ensures within { IfOk result (λ v. length v.items ≤ length_limit) }
-    ensures err { IfErr result (IsReadEnd net.now (H.tells shelf.old) (H.sound shelf.old) (H.holds shelf.old net.now) (H.read_faults shelf.old) (H.read_faults shelf.new)) }
+    ensures err { IfErr result (IsReadEnd name.now (H.tells shelf.old) (H.sound shelf.old) (H.holds shelf.old name.now) (H.read_faults shelf.old) (H.read_faults shelf.new)) }
     ensures untouched { IfErr result IsUntouched }
     ensures same { AllStay (H.holds shelf.old) (H.holds shelf.new) }
     ensures goes_on { Continues H.tells H.sound H.read_faults H.write_faults shelf.old shelf.new }
 {
-    match shelf.read(alloc, net, LENGTH_LIMIT) {
+    match shelf.read(alloc, name, LENGTH_LIMIT) {
         Ok(bytes) => Ok(bytes),
-        Err(ReadEnd::Failed) => Err(read_fault(alloc, net)),
-        Err(ReadEnd::TooLong { .. }) => Err(too_long(alloc, net)),
+        Err(ReadEnd::Failed) => Err(read_fault(alloc, name)),
+        Err(ReadEnd::TooLong { .. }) => Err(too_long(alloc, name)),
         Err(ReadEnd::Memory) => Err(Ended::Memory),
+    }
+}
+
+// Fails where bytes are no library's.
+fn check_library(alloc: Global, bytes: &[u8]) -> Result<(), Ended>
+    requires { length bytes.now ≤ length_limit }
+    ensures ok { OnOk result (IsLibrary bytes.now) }
+    ensures err { IfErr result (IsWrongLibrary bytes.now) }
+{
+    match read_library(alloc, bytes) {
+        Ok(_) => Ok(()),
+        Err(LibraryFault::Syntax { at }) => Err(Ended::Refused(Refusal::LibrarySyntax { at })),
+        Err(LibraryFault::Cell { name, cause }) => {
+            Err(Ended::Refused(Refusal::Cell { name, cause }))
+        }
+        Err(LibraryFault::Memory) => Err(Ended::Memory),
+    }
+}
+
+// Reads the library, where one is named. No netlist that is masked so far uses its cells.
+fn take_library<H: Shelf>(alloc: Global, shelf: &mut H, name: &str) -> Result<(), Ended>
+    requires { H.pending shelf.old ≡ None }
+    ensures pending { H.pending shelf.new ≡ None }
+    ensures ok { OnOk result (HasLibrary name.now (H.tells shelf.old) (H.holds shelf.old name.now)) }
+    ensures named { OnErr result (IsDash name.now → ⊥) }
+    ensures err { IfErr result (IsLibraryEnd name.now (H.tells shelf.old) (H.sound shelf.old) (H.holds shelf.old name.now) (H.read_faults shelf.old) (H.read_faults shelf.new)) }
+    ensures untouched { IfErr result IsUntouched }
+    ensures same { AllStay (H.holds shelf.old) (H.holds shelf.new) }
+    ensures goes_on { Continues H.tells H.sound H.read_faults H.write_faults shelf.old shelf.new }
+{
+    if name == "-" {
+        return Ok(());
+    }
+    match read_file(alloc, shelf, name) {
+        Ok(bytes) => check_library(alloc, bytes.as_slice()),
+        Err(ended) => Err(ended),
+    }
+}
+
+// Reads the library, where one is named, and then the netlist.
+fn read_inputs<H: Shelf>(
+    alloc: Global,
+    shelf: &mut H,
+    library: &str,
+    net: &str,
+) -> Result<Vec<u8>, Ended>
+    requires { H.pending shelf.old ≡ None }
+    ensures pending { H.pending shelf.new ≡ None }
+    ensures ok { IfOk result (λ v. IsTrue (H.tells shelf.old) → H.holds shelf.old net.now ≡ Some v.items) }
+    ensures within { IfOk result (λ v. length v.items ≤ length_limit) }
+    ensures library { OnOk result (HasLibrary library.now (H.tells shelf.old) (H.holds shelf.old library.now)) }
+    ensures err { IfErr result (IsInputEnd library.now net.now (H.tells shelf.old) (H.sound shelf.old) (H.holds shelf.old library.now) (H.holds shelf.old net.now) (H.read_faults shelf.old) (H.read_faults shelf.new)) }
+    ensures untouched { IfErr result IsUntouched }
+    ensures same { AllStay (H.holds shelf.old) (H.holds shelf.new) }
+    ensures goes_on { Continues H.tells H.sound H.read_faults H.write_faults shelf.old shelf.new }
+{
+    match take_library(alloc, shelf, library) {
+        Ok(()) => read_file(alloc, shelf, net),
+        Err(ended) => Err(ended),
     }
 }
 
@@ -165,13 +224,13 @@ fn mask<H: Shelf, K: Sink>(
     requires order { IsOrder command.now.order }
     ensures pending { H.pending shelf.new ≡ None }
     ensures left { HasLeft (mask_of command.now) (H.tells shelf.old) (H.holds shelf.old) (H.holds shelf.new) (K.tells sink.old) (K.taken sink.old) (K.taken sink.new) result }
-    ensures cause { HasCause (mask_of command.now) (found (H.tells shelf.old) (H.sound shelf.old) (K.sound sink.old) (H.holds shelf.old command.now.net.now)) (counts (H.read_faults shelf.old) (H.write_faults shelf.old) (K.faults sink.old)) (counts (H.read_faults shelf.new) (H.write_faults shelf.new) (K.faults sink.new)) result }
+    ensures cause { HasCause (mask_of command.now) (found (H.tells shelf.old) (H.sound shelf.old) (K.sound sink.old) (H.holds shelf.old command.now.library.now) (H.holds shelf.old command.now.net.now)) (counts (H.read_faults shelf.old) (H.write_faults shelf.old) (K.faults sink.old)) (counts (H.read_faults shelf.new) (H.write_faults shelf.new) (K.faults sink.new)) result }
     ensures others { OthersKeep command.now.out.now (H.holds shelf.old) (H.holds shelf.new) }
 {
     if !is_built(command) {
         return Ended::Refused(Refusal::NotBuilt);
     }
-    let bytes = match read_netlist(alloc, shelf, command.net) {
+    let bytes = match read_inputs(alloc, shelf, command.library, command.net) {
         Ok(bytes) => bytes,
         Err(ended) => return ended,
     };
@@ -191,11 +250,12 @@ pub fn run<H: Shelf, K: Sink>(alloc: Global, words: &[String], shelf: &mut H, ou
     ensures usage { (result ≡ Ended.Usage) ↔ ((m : Mask) → IsMask (map string_bytes words.now) m → ⊥) }
     ensures refused { result ≡ Ended.Usage → LeavesAll (H.holds shelf.old) (H.holds shelf.new) (K.taken out.old) (K.taken out.new) }
     ensures left { (m : Mask) → IsMask (map string_bytes words.now) m → HasLeft m (H.tells shelf.old) (H.holds shelf.old) (H.holds shelf.new) (K.tells out.old) (K.taken out.old) (K.taken out.new) result }
-    ensures cause { (m : Mask) → IsMask (map string_bytes words.now) m → HasCause m (found (H.tells shelf.old) (H.sound shelf.old) (K.sound out.old) (H.holds shelf.old m.net)) (counts (H.read_faults shelf.old) (H.write_faults shelf.old) (K.faults out.old)) (counts (H.read_faults shelf.new) (H.write_faults shelf.new) (K.faults out.new)) result }
-    ensures complete { (m : Mask) → IsMask (map string_bytes words.now) m → IsComplete m (found (H.tells shelf.old) (H.sound shelf.old) (K.sound out.old) (H.holds shelf.old m.net)) (counts (H.read_faults shelf.old) (H.write_faults shelf.old) (K.faults out.old)) (counts (H.read_faults shelf.new) (H.write_faults shelf.new) (K.faults out.new)) result }
+    ensures cause { (m : Mask) → IsMask (map string_bytes words.now) m → HasCause m (found (H.tells shelf.old) (H.sound shelf.old) (K.sound out.old) (H.holds shelf.old m.library) (H.holds shelf.old m.net)) (counts (H.read_faults shelf.old) (H.write_faults shelf.old) (K.faults out.old)) (counts (H.read_faults shelf.new) (H.write_faults shelf.new) (K.faults out.new)) result }
+    ensures complete { (m : Mask) → IsMask (map string_bytes words.now) m → IsComplete m (found (H.tells shelf.old) (H.sound shelf.old) (K.sound out.old) (H.holds shelf.old m.library) (H.holds shelf.old m.net)) (counts (H.read_faults shelf.old) (H.write_faults shelf.old) (K.faults out.old)) (counts (H.read_faults shelf.new) (H.write_faults shelf.new) (K.faults out.new)) result }
     ensures others { (m : Mask) → IsMask (map string_bytes words.now) m → OthersKeep m.out (H.holds shelf.old) (H.holds shelf.new) }
 {
     one_original();
+    one_library();
     match read_command(words) {
         None => Ended::Usage,
         Some(command) => mask(alloc, &command, shelf, out),

@@ -1,12 +1,11 @@
-ghost use Rattle.std.specs.Prelude.{◌≡◌, ◌+◌, ◌-◌, ◌*◌, ◌^◌, ◌<◌, ◌≤◌, ◌↔◌, min, sum_by, length, IsTrue, []};
+ghost use Rattle.std.specs.Prelude.{◌≡◌, ◌+◌, ◌-◌, ◌*◌, ◌^◌, ◌<◌, ◌≤◌, ◌↔◌, min, sum_by, length, IsTrue};
 ghost use Rattle.agm_net.specs.Formula.{formula_of};
 ghost use Rattle.agm_net.specs.View.{plain_of};
 ghost use Rattle.agema_core.specs.Operators as spec;
-ghost use Rattle.agm_net.specs.Simple.{IsLinear};
-ghost use Rattle.agema_core.specs.Masks.{size_limit};
-ghost use Rattle.std.specs.List.{AllByRecursion};
+ghost use Rattle.agema_core.specs.Masks.{IsServed, size_limit};
 
 use agm_net::{Equation, Expr, Net, Register};
+use small_net::Original;
 
 // The greatest size that is masked.
 const SIZE_LIMIT: usize = 65_536;
@@ -70,12 +69,11 @@ pub(crate) fn count_operators(net: &Net) -> usize
     equations.saturating_add(registers)
 }
 
-/// The operators of a simple net: one in each equation at the most, so that they are fewer than its equations can be.
-pub(crate) fn simple_operators(net: &Net) -> usize
-    requires linear { AllByRecursion (λ l. IsLinear l.1) (plain_of net.now).lines }
-    requires registers { (plain_of net.now).registers ≡ [] }
-    ensures { result ≡ spec.operators_of (plain_of net.now) }
+/// The operators of a net that is masked so far: one in each equation at the most, so that they are fewer than its equations can be.
+pub(crate) fn served_operators(original: &Original) -> usize
+    requires { IsServed (plain_of original.now.net) original.now.marks.kinds }
+    ensures { result ≡ spec.operators_of (plain_of original.now.net) }
 {
-    let _equations = net.equations.len();
-    count_operators(net)
+    let _equations = original.net.equations.len();
+    count_operators(&original.net)
 }

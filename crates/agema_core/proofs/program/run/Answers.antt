@@ -32,7 +32,7 @@ pub returns-in-Some-clause-cause : goal.returns-in-Some-clause-cause
 returns-in-Some-clause-cause g c = λ m is.
     (let read = command_read (map (string_bytes {Z = Global}) c.args.words.now) m is in let some = c.in-Some.ensures in
     let same : mask_of c.in-Some.command ≡ m = cc in
-    let P : Mask → Type 0 = λ m. HasCause m (found (g.H.Shelf.tells c.args.shelf.now) (g.H.Shelf.sound c.args.shelf.now) (g.K.Sink.sound c.args.out.now) (g.H.Shelf.holds c.args.shelf.now m.net)) (counts (g.H.Shelf.read_faults c.args.shelf.now) (g.H.Shelf.write_faults c.args.shelf.now) (g.K.Sink.faults c.args.out.now)) (counts (g.H.Shelf.read_faults c.mask.new.shelf) (g.H.Shelf.write_faults c.mask.new.shelf) (g.K.Sink.faults c.mask.new.sink)) c.mask.result in
+    let P : Mask → Type 0 = λ m. HasCause m (found (g.H.Shelf.tells c.args.shelf.now) (g.H.Shelf.sound c.args.shelf.now) (g.K.Sink.sound c.args.out.now) (g.H.Shelf.holds c.args.shelf.now m.library) (g.H.Shelf.holds c.args.shelf.now m.net)) (counts (g.H.Shelf.read_faults c.args.shelf.now) (g.H.Shelf.write_faults c.args.shelf.now) (g.K.Sink.faults c.args.out.now)) (counts (g.H.Shelf.read_faults c.mask.new.shelf) (g.H.Shelf.write_faults c.mask.new.shelf) (g.K.Sink.faults c.mask.new.sink)) c.mask.result in
     subst P same c.mask.ensures.cause)
 
 pub returns-in-Some-clause-others : goal.returns-in-Some-clause-others
@@ -51,7 +51,7 @@ returns-in-Some-clause-complete g c = λ m is.
     let same : mask_of c.in-Some.command ≡ m = cc in
     let before = counts (g.H.Shelf.read_faults c.args.shelf.now) (g.H.Shelf.write_faults c.args.shelf.now) (g.K.Sink.faults c.args.out.now) in
     let now = counts (g.H.Shelf.read_faults c.mask.new.shelf) (g.H.Shelf.write_faults c.mask.new.shelf) (g.K.Sink.faults c.mask.new.sink) in
-    let seen : Mask → Found = λ m. found (g.H.Shelf.tells c.args.shelf.now) (g.H.Shelf.sound c.args.shelf.now) (g.K.Sink.sound c.args.out.now) (g.H.Shelf.holds c.args.shelf.now m.net) in
+    let seen : Mask → Found = λ m. found (g.H.Shelf.tells c.args.shelf.now) (g.H.Shelf.sound c.args.shelf.now) (g.K.Sink.sound c.args.out.now) (g.H.Shelf.holds c.args.shelf.now m.library) (g.H.Shelf.holds c.args.shelf.now m.net) in
     let P : Mask → Type 0 = λ m. IsComplete m (seen m) before now c.mask.result in
     let first = mask_of c.in-Some.command in
-    subst P same (completes first (seen first) before now c.mask.result c.one_original.ensures (g.met.H.Shelf.sound_tells c.args.shelf.now) c.mask.ensures.cause))
+    subst P same (completes first (seen first) before now c.mask.result c.one_original.ensures c.one_library.ensures (g.met.H.Shelf.sound_tells c.args.shelf.now) c.mask.ensures.cause))

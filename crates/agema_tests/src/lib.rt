@@ -1,0 +1,23 @@
+//! Tests of the commands, over files and outputs in memory.
+#![tactic(auto)]
+
+#[cfg(test)]
+mod command;
+#[cfg(test)]
+mod complete;
+#[cfg(test)]
+mod explained;
+#[cfg(test)]
+mod faults;
+#[cfg(test)]
+mod libraries;
+#[cfg(test)]
+mod limits;
+#[cfg(test)]
+mod product;
+#[cfg(test)]
+mod refusals;
+#[cfg(test)]
+mod two_cells;
+#[cfg(test)]
+mod written_nets;
