@@ -1,0 +1,4 @@
+pub mod Clocked
+pub mod Rules
+pub mod Spread
+pub mod Asked

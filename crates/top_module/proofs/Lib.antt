@@ -1,0 +1,4 @@
+pub mod Added
+pub mod Numbering
+pub mod Placed
+pub mod Grown
