@@ -1,0 +1,3 @@
+pub mod Wiring
+pub mod View
+pub mod Counted
