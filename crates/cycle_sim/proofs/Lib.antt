@@ -1,0 +1,2 @@
+pub mod NodeValues
+pub mod Cycles

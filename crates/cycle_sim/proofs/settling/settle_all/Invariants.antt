@@ -1,0 +1,7 @@
+use Rattle.std.proofs.Common.{◌≡◌, ◌<◌, ℕ, length, slice_get, Some}
+use Rattle.logic_graph.specs.declared.nodes.Node.{Node}
+use Rattle.logic_graph.specs.Settled.{bit_of, node_value}
+use Rattle.cycle_sim.proofs.settling.settle_all.Given as goal
+
+abbrev pub invariant-loop-k : goal.invariant-loop-k
+invariant-loop-k l = (j : ℕ) (n : Node) → j < l.k → slice_get l.nodes j ≡ Some n → bit_of l.values j ≡ node_value l.inputs l.registers (bit_of l.values) n

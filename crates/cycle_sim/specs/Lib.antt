@@ -1,0 +1,4 @@
+pub mod Fits
+pub mod Told
+pub mod HasRun
+pub mod Moved

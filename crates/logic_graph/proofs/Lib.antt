@@ -1,0 +1,17 @@
+pub mod Lists
+pub mod Fresh
+pub mod Waiting
+pub mod Turns
+pub mod Orders
+pub mod Blocks
+pub mod Places
+pub mod Jobs
+pub mod Sums
+pub mod Wires
+pub mod SourceNodes
+pub mod NetDrawing
+pub mod GraphMade
+pub mod Values
+pub mod OneTrace
+pub mod NetParts
+pub mod NetOrdered

@@ -1,0 +1,10 @@
+pub mod Nodes
+pub mod Settled
+pub mod Operators
+pub mod GraphOf
+pub mod Traces
+pub mod Searching
+pub mod Drawn
+pub mod Sources
+pub mod Made
+pub mod Ordered

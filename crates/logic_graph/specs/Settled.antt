@@ -1,0 +1,27 @@
+-- Values of nodes.
+use Rattle.std.specs.Prelude.{◌≡◌, ℕ, Bool, true, false, not, ◌&&◌, ◌||◌, cond, List, length, Some, slice_get, slice_index_or}
+use Rattle.agm_net.specs.Formula.{xor}
+use Rattle.agm_net.specs.Trace.{Row}
+use Rattle.logic_graph.specs.declared.nodes.Node.{Node}
+use Rattle.logic_graph.specs.declared.nodes.Node.TheVariants.{Zero, One, Input, Q, Not, Xor, And, Or, Mux}
+
+-- bit k of a row, 0 behind its end
+abbrev pub bit_of : Row → ℕ → Bool
+bit_of row k = slice_index_or row k false
+
+-- the value of a node for these input bits and register contents, where node k has the value `at k`
+abbrev pub node_value : Row → Row → (ℕ → Bool) → Node → Bool
+node_value inputs registers at Zero = false
+node_value inputs registers at One = true
+node_value inputs registers at (Input i) = bit_of inputs i
+node_value inputs registers at (Q r) = bit_of registers r
+node_value inputs registers at (Not a) = not (at a)
+node_value inputs registers at (Xor a b) = xor (at a) (at b)
+node_value inputs registers at (And a b) = at a && at b
+node_value inputs registers at (Or a b) = at a || at b
+node_value inputs registers at (Mux s a b) = cond (at s) (at b) (at a)
+
+-- The values of all nodes for these input bits and register contents: each is that of its node, by the values of its operands.
+pub record IsSettled (nodes : List Node) (inputs registers values : Row) : Type 0 where
+  pub one_each : length values ≡ length nodes
+  pub is_value : (k : ℕ) (n : Node) → slice_get nodes k ≡ Some n → bit_of values k ≡ node_value inputs registers (bit_of values) n

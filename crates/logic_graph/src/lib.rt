@@ -1,0 +1,15 @@
+//! The graph of a net: its operators, each behind its operands.
+#![tactic(auto)]
+
+mod drawing;
+mod graphs;
+mod making;
+mod nodes;
+mod ordering;
+mod search;
+mod sources;
+
+pub use graphs::{Graph, Xan};
+pub use making::{input_bits, order};
+pub use nodes::{Node, XanNode};
+pub use ordering::GraphFault;
