@@ -89,17 +89,6 @@ abbrev pub Apart : List (List ℕ) → Type 0
 Apart [] = Unit {0}
 Apart (n ∷ ns) = (is_among ns n ≡ false) × Apart ns
 
--- each of names that differ is counted once
-pub apart_count : (xs : List (List ℕ)) (n : List ℕ) → Apart xs → is_among xs n ≡ true → count_by (λ m. bytes_eq m n) xs ≡ 1
-apart_count [] n a h = absurd (both_ways false refl h)
-apart_count (x ∷ xs) n a h =
-    elim (cases_Bool (bytes_eq x n)) [
-      | inl e ↦ let none : is_among xs n ≡ false = subst (λ m. is_among xs m ≡ false) (same_names x n e) a.0 in
-          let c = count-yes (λ m. bytes_eq m n) x xs e in let z = count_none (λ m. bytes_eq m n) xs none in omega arith
-      | inr e ↦ let later : is_among xs n ≡ true = sym (ap (λ b. b || is_among xs n) e) ∙ h in
-          count-no (λ m. bytes_eq m n) x xs e ∙ apart_count xs n a.1 later
-    ]
-
 -- names that are each counted once differ
 pub apart_from_counts : (xs : List (List ℕ)) → ((n : List ℕ) → is_among xs n ≡ true → count_by (λ m. bytes_eq m n) xs ≡ 1) → Apart xs
 apart_from_counts [] f = tt
@@ -137,15 +126,6 @@ apart_sides (x ∷ xs) ys n a h =
       | inr e ↦ ap (λ b. b || is_among xs n) e ∙ apart_sides xs ys n a.1 h
     ]
 
--- two lists of names that differ, and share none, make one
-pub apart_joined : (xs ys : List (List ℕ)) → Apart xs → Apart ys → ((n : List ℕ) → is_among ys n ≡ true → is_among xs n ≡ false) → Apart (xs ++ ys)
-apart_joined [] ys a b f = b
-apart_joined (x ∷ xs) ys a b f =
-    let other : is_among ys x ≡ false = false_from_ne_true (is_among ys x) (λ h. both_ways (is_among (x ∷ xs) x) (f x h) (or_left (bytes_eq x x) (is_among xs x) (name_itself x))) in (
-      among_append xs ys x ∙ (ap (λ c. c || is_among ys x) a.0 ∙ other),
-      apart_joined xs ys a.1 b (λ n h. (or_parts (bytes_eq x n) (is_among xs n) (f n h)).1),
-    )
-
 -- the place of a name, and the name at a place
 pub place_of : (xs : List (List ℕ)) (n : List ℕ) → is_among xs n ≡ true → (k : ℕ) × (k < length xs) × (slice_get xs k ≡ Some n)
 place_of [] n h = absurd (both_ways false refl h)
@@ -155,18 +135,6 @@ place_of (x ∷ xs) n h =
       | inr later ↦ let i = place_of xs n later in let lt : i.0 < length xs = i.1 in (suc i.0, omega arith, i.2)
     ]
 
--- the name at a place is among them
-pub among_at : (xs : List (List ℕ)) (k : ℕ) (n : List ℕ) → slice_get xs k ≡ Some n → is_among xs n ≡ true
-among_at [] k n h = cc
-among_at (x ∷ xs) zero n h = let e : x ≡ n = cc in or_left (bytes_eq x n) (is_among xs n) (ap (λ m. bytes_eq m n) e ∙ name_itself n)
-among_at (x ∷ xs) (suc k) n h = or_right (bytes_eq x n) (is_among xs n) (among_at xs k n h)
-
--- the name at each place
-pub name_at : (xs : List (List ℕ)) (k : ℕ) → k < length xs → (n : List ℕ) × (slice_get xs k ≡ Some n)
-name_at [] k h = absurd (omega arith)
-name_at (x ∷ xs) zero h = (x, refl)
-name_at (x ∷ xs) (suc k) h = name_at xs k (omega arith)
-
 -- names that differ by place are none of those behind them
 pub apart_from_differ : (xs : List (List ℕ)) → Differ xs → Apart xs
 apart_from_differ [] d = tt
@@ -174,11 +142,3 @@ apart_from_differ (x ∷ xs) d = (
   false_from_ne_true (is_among xs x) (λ h. let i = place_of xs x h in let lt : i.0 < length xs = i.1 in d zero (suc i.0) (omega arith) (omega arith) (sym i.2)),
   apart_from_differ xs (λ v w lt below. d (suc v) (suc w) (omega arith) (omega arith)),
 )
-
--- names that are none of those behind them differ by place
-pub differ_from_apart : (xs : List (List ℕ)) → Apart xs → Differ xs
-differ_from_apart [] a v w lt below same = absurd (omega arith)
-differ_from_apart (x ∷ xs) a zero zero lt below same = absurd (omega arith)
-differ_from_apart (x ∷ xs) a zero (suc w) lt below same = both_ways (is_among xs x) a.0 (among_at xs w x (sym same))
-differ_from_apart (x ∷ xs) a (suc v) zero lt below same = absurd (omega arith)
-differ_from_apart (x ∷ xs) a (suc v) (suc w) lt below same = differ_from_apart xs a.1 v w (omega arith) (omega arith) same

@@ -86,15 +86,6 @@ pub apart_append : (xs ys : List (List ℕ)) → Apart xs → Apart ys → AllBy
 apart_append [] ys a b h = b
 apart_append (x ∷ xs) ys a b h = (all_append (λ m. x ≢ m) xs ys a.0 h.0, apart_append xs ys a.1 b h.1)
 
--- the names of either part differ
-pub apart_front : (xs ys : List (List ℕ)) → Apart (xs ++ ys) → Apart xs
-apart_front [] ys a = tt
-apart_front (x ∷ xs) ys a = (all_front (λ m. x ≢ m) xs ys a.0, apart_front xs ys a.1)
-
-pub apart_back : (xs ys : List (List ℕ)) → Apart (xs ++ ys) → Apart ys
-apart_back [] ys a = a
-apart_back (x ∷ xs) ys a = apart_back xs ys a.1
-
 -- none of the second names is among the first
 pub none_among : (xs ys : List (List ℕ)) → Apart (xs ++ ys) → AllByRecursion (λ y. is_among xs y ≡ false) ys
 none_among [] ys a = all_every (λ y. false ≡ false) (λ y. refl) ys

@@ -1,7 +1,7 @@
 -- Lists that have each number below their length once.
 use Rattle.std.proofs.Common.{◌≡◌, ◌≢◌, ◌≤◌, ◌<◌, ◌+◌, ◌==◌, ℕ, zero, suc, Bool, true, false, not, ◌||◌, cond, List, [], ◌∷◌, ◌++◌, length, get_or, nat_lt, IsTrue, refl, sym, ap, ◌∙◌, inl, inr, arith, eq-eqb}
 use Rattle.std.specs.List.{list_any, position_or_len, AllByRecursion}
-use Rattle.std.proofs.lemmas.Bool.{both_ways, cases_lt, cases_Bool, or_left, or_right, eqb-true, lt-ltb, le-ltb, ne_eqb}
+use Rattle.std.proofs.lemmas.Bool.{both_ways, cases_lt, cases_Bool, eqb-true, lt-ltb, le-ltb, ne_eqb}
 use Rattle.small_net.proofs.Apart.{all_append}
 
 -- no number is a later one
@@ -41,12 +41,6 @@ there_it_is (x ∷ xs) w d h =
           let later : position_or_len (λ v. v == w) (x ∷ xs) ≡ suc (position_or_len (λ v. v == w) xs) = omega arith in
           ap (λ k. get_or (x ∷ xs) k d) later ∙ there_it_is xs w d (later_of (x == w) (has xs w) e h)
     ]
-
--- the number at a place is in the list, and its place is that one
-pub at_is_in : (xs : List ℕ) (k d : ℕ) → k < length xs → IsTrue (has xs (get_or xs k d))
-at_is_in [] k d lt = absurd (omega arith)
-at_is_in (x ∷ xs) zero d lt = or_left (x == x) (has xs x) (eq-eqb x x refl)
-at_is_in (x ∷ xs) (suc k) d lt = or_right (x == get_or xs k d) (has xs (get_or xs k d)) (at_is_in xs k d (omega arith))
 
 number_at : (P : ℕ → Type 0) (xs : List ℕ) (k d : ℕ) → AllByRecursion P xs → k < length xs → P (get_or xs k d)
 number_at P [] k d all lt = absurd (omega arith)

@@ -8,28 +8,11 @@ use Rattle.agm_net.specs.declared.mark.Mark.TheVariants.{Unmarked, Clock}
 use Rattle.small_text.specs.declared.small.Small.{Small}
 use Rattle.small_text.specs.Grammar.{Spelled}
 use Rattle.small_net.specs.States.{States}
-use Rattle.agm_net.specs.View.{plain_of}
-use Rattle.small_net.specs.declared.original.Case.{Case}
-use Rattle.small_net.specs.declared.original.Case.TheVariants.{Linear, Product}
-use Rattle.small_net.specs.FirstForm.{IsFirstForm, IsLinearForm, IsProductForm}
 
 -- the mark of the port of a number: the clock's where it is the clock
 abbrev pub mark_at : Option ℕ → ℕ → Mark
 mark_at None k = Unmarked
 mark_at (Some c) k = cond (c == k) Clock Unmarked
-
--- the bytes are a text of the first form, and state a net whose ports have these marks
-abbrev pub StatesFirst : List ℕ → PlainNet → List Mark → Type 0
-StatesFirst bytes net marks = (s : Small) × Spelled bytes s × IsFirstForm s × States s net marks
-
--- a module of this case states the net, whose ports have the marks
-abbrev pub IsCaseOf : Small → Case → Type 0
-IsCaseOf s (Linear x) = IsLinearForm s × States s (plain_of x.net) x.marks.kinds
-IsCaseOf s (Product x) = IsProductForm s × States s (plain_of x.net) x.marks.kinds
-
--- a text of this case states the net, whose ports have the marks
-abbrev pub StatesCase : List ℕ → Case → Type 0
-StatesCase bytes case = (s : Small) × Spelled bytes s × IsCaseOf s case
 
 -- the marks of a net's ports in a text that is written for it: the clock's port is marked so, and no other port has a mark
 abbrev pub written_marks : PlainNet → List Mark

@@ -18,9 +18,6 @@ tokens_of [] = []
 tokens_of (word u ∷ ps) = u ∷ tokens_of ps
 tokens_of (space s ∷ ps) = tokens_of ps
 
-abbrev Blanks : List ℕ → Type 0
-Blanks s = AllByRecursion (λ b. IsTrue (is_blank b)) s
-
 -- Parts behind a token may be written so, and end with white space. The test says whether white space stands behind the token.
 abbrev pub Well : Token → Bool → List Part → Type 0
 Well t any [] = any ≡ true

@@ -1,10 +1,8 @@
 -- Runs of bytes of one kind.
-use Rattle.std.proofs.Common.{◌≡◌, ◌≤◌, ◌<◌, ◌++◌, ℕ, zero, suc, Bool, true, false, cond, length, take, drop, get_or, List, [], ◌∷◌, refl, sym, ap, ◌∙◌, subst, IsTrue, arith, append-nil, length-append}
+use Rattle.std.proofs.Common.{◌≡◌, ◌≤◌, ◌++◌, ℕ, Bool, true, false, cond, length, take, drop, List, [], ◌∷◌, refl, sym, ap, ◌∙◌, subst, IsTrue, arith, append-nil, length-append}
 use Rattle.std.specs.List.{take_while, AllByRecursion}
-use Rattle.std.proofs.lemmas.Bool.Decides.{nat_tests}
 use Rattle.std.proofs.lemmas.List.Sums.{take_while-cons}
 use Rattle.std.proofs.Math.Seq.{take-append_seam, drop-append-add}
-use Rattle.small_text.specs.Bytes.{is_digit}
 use Rattle.small_text.specs.First.{run}
 
 -- each byte is of the kind
@@ -79,17 +77,3 @@ run_front kind front behind h e =
 -- and the rest is what stands behind them
 pub run_rest : (kind : ℕ → Bool) (front behind : List ℕ) → AllOf kind front → run kind behind ≡ 0 → drop (run kind (front ++ behind)) (front ++ behind) ≡ behind
 run_rest kind front behind h e = run_seam kind front behind h ∙ ap (λ n. drop n behind) e
-
--- each byte of a list that is of one kind
-all_at : (kind : ℕ → Bool) (bytes : List ℕ) → AllOf kind bytes → (k : ℕ) → k < length bytes → IsTrue (kind (get_or bytes k 0))
-all_at kind [] h k below = absurd (omega arith)
-all_at kind (b ∷ bs) h zero below = h.0
-all_at kind (b ∷ bs) h (suc k) below = all_at kind bs h.1 k (omega arith)
-
--- a digit is 48 or more
-digit_from : (b : ℕ) → IsTrue (is_digit b) → 48 ≤ b
-digit_from b h = grind (arith, nat_tests)
-
--- the bytes of a run of digits are 48 or more
-pub digits_from : (bytes digits : List ℕ) → digits ≡ take (run is_digit bytes) bytes → (k : ℕ) → k < length digits → 48 ≤ get_or digits k 0
-digits_from bytes digits e k below = digit_from _ (all_at is_digit digits (subst (AllOf is_digit) (sym (e ∙ taken_run is_digit bytes)) (all_of_run is_digit bytes)) k below)

@@ -1,5 +1,5 @@
 -- The tokens of a text, by IEEE 1364-2005 in the profile of docs/FORMATS.md.
-use Rattle.std.specs.Prelude.{◌≡◌, ◌≤◌, ◌<◌, ◌⊎◌, ◌^◌, ℕ, true, false, List, [], ◌∷◌, ◌++◌, length, IsTrue, codes}
+use Rattle.std.specs.Prelude.{◌≡◌, ◌≤◌, ◌<◌, ◌⊎◌, ℕ, true, false, List, [], ◌∷◌, ◌++◌, length, IsTrue, codes}
 use Rattle.std.specs.List.{AllByRecursion}
 use Rattle.small_text.specs.Bytes.{is_letter, is_digit, is_word, is_text, is_blank, is_symbol, is_key, number_of}
 use Rattle.agm_net.specs.Writable.{IsWritable}
@@ -47,8 +47,3 @@ pub data Cuts : List ℕ → List Token → Type 0 where
   nothing : Cuts [] []
   blank : {bytes rest : List ℕ} {ts : List Token} → Blank bytes rest → Cuts rest ts → Cuts bytes ts
   token : {bytes rest : List ℕ} {t : Token} {ts : List Token} → First bytes t rest → Cuts rest ts → Cuts bytes (t ∷ ts)
-
--- a number that a word of 32 bits holds; those of a small text are at most 65,535
-abbrev pub FitsToken : Token → Type 0
-FitsToken (Number n) = n < 2 ^ 32
-FitsToken _ = Unit {0}

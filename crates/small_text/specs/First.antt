@@ -3,7 +3,6 @@ use Rattle.std.specs.Prelude.{◌==◌, ℕ, Bool, true, false, not, ◌||◌, �
 use Rattle.std.specs.List.{take_while, starts_with}
 use Rattle.agm_net.specs.Writable.{is_graphic}
 use Rattle.small_text.specs.Bytes.{is_letter, is_digit, is_word, is_text, is_blank, is_symbol, is_key, number_of}
-use Rattle.small_text.specs.Cuts.{FitsToken}
 use Rattle.small_text.specs.declared.token.Token.{Token}
 use Rattle.small_text.specs.declared.token.Token.TheVariants.{Name, Key, Number, Constant, Text, Symbol, Open, Close}
 
@@ -20,11 +19,6 @@ begins b (c ∷ cs) = c == b
 abbrev pub begins_blank : List ℕ → Bool
 begins_blank [] = false
 begins_blank (b ∷ bs) = is_blank b
-
--- what stands behind one byte of white space
-abbrev pub blank_at : List ℕ → Option (List ℕ)
-blank_at [] = None
-blank_at (b ∷ bs) = cond (is_blank b) (Some bs) None
 
 -- the token that a word is
 abbrev pub named : List ℕ → Token
@@ -71,8 +65,3 @@ token_at (b ∷ bs) =
     (cond ((b == 42) && begins 41 bs) (Some (Close, drop 1 bs))
     (cond (b == 92) (escaped_at bs)
     (cond (b == 34) (string_at bs) (unmarked_at (b ∷ bs)))))
-
--- there is no token, or one whose number does not fit
-abbrev pub NoneFits : Option (Token × List ℕ) → Type 0
-NoneFits None = Unit {0}
-NoneFits (Some found) = ¬ FitsToken found.0

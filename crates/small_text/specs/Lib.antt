@@ -3,5 +3,4 @@ pub mod Cuts
 pub mod First
 pub mod Grammar
 pub mod Layout
-pub mod Reading
 pub mod Written
