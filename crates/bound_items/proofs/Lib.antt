@@ -1,0 +1,4 @@
+mod Gives
+mod Instances
+mod Steps
+mod Quiet

@@ -1,0 +1,5 @@
+pub mod Walk
+pub mod Rest
+pub mod Ready
+pub mod Ports
+pub mod Bound
