@@ -79,7 +79,11 @@ fn ports_of(alloc: Global, design: &Design) -> Result<List<Port>, Memory> {
     Ok(ports)
 }
 
-fn equations_of(alloc: Global, lines: &[(usize, Cell)]) -> Result<List<Equation>, Memory> {
+/// Equations of wires.
+pub(crate) fn equations_of(
+    alloc: Global,
+    lines: &[(usize, Cell)],
+) -> Result<List<Equation>, Memory> {
     let mut equations = List::new(alloc);
     for (wire, cell) in lines {
         let expr = expr_of(alloc, *cell)?;
@@ -88,7 +92,11 @@ fn equations_of(alloc: Global, lines: &[(usize, Cell)]) -> Result<List<Equation>
     Ok(equations)
 }
 
-fn registers_of(alloc: Global, stored: &[(usize, Cell)]) -> Result<List<Register>, Memory> {
+/// Registers by their outputs, with wire 0 as their clock.
+pub(crate) fn registers_of(
+    alloc: Global,
+    stored: &[(usize, Cell)],
+) -> Result<List<Register>, Memory> {
     let mut registers = List::new(alloc);
     for (q, cell) in stored {
         let next = expr_of(alloc, *cell)?;

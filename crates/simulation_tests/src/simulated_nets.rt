@@ -7,7 +7,8 @@ use cycle_sim::{Sim, SimFault};
 use std::alloc::Global;
 use std::test::Fail;
 
-fn row_of(alloc: Global, bits: &[bool]) -> Result<BitRow, Memory> {
+/// A row of these bits.
+pub(crate) fn row_of(alloc: Global, bits: &[bool]) -> Result<BitRow, Memory> {
     let mut row = BitRow::new(alloc);
     for bit in bits {
         row.push(*bit)?;

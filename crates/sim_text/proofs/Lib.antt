@@ -1,0 +1,4 @@
+pub mod Items
+pub mod Ports
+pub mod Prefixes
+pub mod Texts

@@ -1,0 +1,8 @@
+//! What a simulation prints.
+#![tactic(auto)]
+
+mod lines;
+mod rows;
+mod text;
+
+pub use text::sim_text;

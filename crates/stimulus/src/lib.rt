@@ -1,0 +1,16 @@
+//! Stimuli: what a simulated net is driven with, read from JSON.
+#![tactic(auto)]
+
+mod checks;
+mod fault;
+mod inputs;
+mod laws;
+mod reading;
+mod steps;
+mod stimuli;
+mod texts;
+
+pub use fault::{StimulusCause, StimulusFault};
+pub use laws::texts_are_one;
+pub use reading::read_stimulus;
+pub use stimuli::{Stimulus, Stream};
