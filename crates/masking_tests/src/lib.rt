@@ -9,3 +9,5 @@ mod gadgets;
 mod masked_nets;
 #[cfg(test)]
 mod public_wires;
+#[cfg(test)]
+mod served_nets;

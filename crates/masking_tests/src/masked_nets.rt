@@ -1,47 +1,61 @@
 //! Masked nets compute what the original does, at every order. The outputs were worked out by hand.
 
-ghost use Rattle.std.specs.Prelude.{◌≤◌, IfOk, IfSome};
-ghost use Rattle.masking_tests.specs.Served.{IsServed};
+ghost use Rattle.std.specs.Prelude.{◌≤◌};
 
 use crate::evaluator::{bit, next};
-use agm_bits::Memory;
-use share_wiring::Masked;
-use simple_masking::mask_net;
-use small_net::{Case, Original, linear_is_simple, product_is_one, read_case};
+use agm_bits::{List, Memory, Name};
+use agm_net::{Equation, Mark, Marks, Net, Port, Way};
+use share_wiring::{Gate, Masked};
+use simple_masking::{is_served, mask_net};
 use std::alloc::{AllocError, Global};
 use std::test::Fail;
 
 /// The inputs of each step, and its outputs.
 type Steps = &'static [(&'static str, &'static str)];
 
-/// A netlist, the names of its inputs and outputs, whether it is a product, and its steps.
+/// A net, whether it is a product, and its steps. Its wires are those of the inputs, of the outputs, and the inner ones, in this order;
+/// an equation is a wire and its gate.
 struct Example {
-    text: &'static str,
+    name: &'static str,
     inputs: &'static [&'static str],
     outputs: &'static [&'static str],
+    inner: &'static [&'static str],
+    equations: &'static [(usize, Gate)],
     is_product: bool,
     steps: Steps,
 }
 
 const EXAMPLES: [Example; 3] = [
     Example {
-        text: "module sum(a, b, y); (* AGEMA = \"secure\" *) input a; (* AGEMA = \"secure\" *) input b; output y; AGM_XOR2 u (.A(a), .B(b), .Y(y)); endmodule",
+        name: "sum",
         inputs: &["a", "b"],
         outputs: &["y"],
+        inner: &[],
+        equations: &[(2, Gate::Xor(0, 1))],
         is_product: false,
         steps: &[("00", "0"), ("10", "1"), ("01", "1"), ("11", "0")],
     },
     Example {
-        text: "module one(a, b, y); (* AGEMA = \"secure\" *) input a; (* AGEMA = \"secure\" *) input b; output y; AGM_AND2 u (.A(a), .B(b), .Y(y)); endmodule",
+        name: "one",
         inputs: &["a", "b"],
         outputs: &["y"],
+        inner: &[],
+        equations: &[(2, Gate::And(0, 1))],
         is_product: true,
         steps: &[("00", "0"), ("11", "1"), ("01", "0"), ("10", "0")],
     },
     Example {
-        text: "module five(a, b, c, d, y, z); (* AGEMA = \"secure\" *) input a; (* AGEMA = \"secure\" *) input b; (* AGEMA = \"secure\" *) input c; (* AGEMA = \"secure\" *) input d; output y; output z; wire p, q, r; AGM_XOR2 u0 (.A(a), .B(b), .Y(p)); AGM_NOT u1 (.A(p), .Y(q)); AGM_XOR2 u2 (.A(q), .B(c), .Y(r)); AGM_XOR2 u3 (.A(r), .B(d), .Y(y)); AGM_NOT u4 (.A(r), .Y(z)); endmodule",
+        name: "five",
         inputs: &["a", "b", "c", "d"],
         outputs: &["y", "z"],
+        inner: &["p", "q", "r"],
+        equations: &[
+            (6, Gate::Xor(0, 1)),
+            (7, Gate::Not(6)),
+            (8, Gate::Xor(7, 2)),
+            (4, Gate::Xor(8, 3)),
+            (5, Gate::Not(8)),
+        ],
         is_product: false,
         steps: &[
             ("0000", "10"),
@@ -54,37 +68,87 @@ const EXAMPLES: [Example; 3] = [
     },
 ];
 
-// The net of a text of the first form, None where it is none.
-fn read_original(alloc: Global, bytes: &[u8]) -> Result<Option<Original>, Memory>
-    ensures { IfOk result (λ o. IfSome o IsServed) }
-{
-    linear_is_simple();
-    product_is_one();
-    let found = read_case(alloc, bytes)?;
-    match found {
-        Some(Case::Linear(original)) => Ok(Some(original)),
-        Some(Case::Product(original)) => Ok(Some(original)),
-        None => Ok(None),
+// Adds ports of one bit each, from the number of the first one's wire.
+fn push_ports(
+    alloc: Global,
+    ports: &mut List<Port>,
+    way: Way,
+    first: usize,
+    names: &[&str],
+) -> Result<(), Memory> {
+    for (k, name) in names.iter().enumerate() {
+        ports.push(Port {
+            name: Name::from_slice(alloc, name.as_bytes())?,
+            way,
+            range: None,
+            bits: List::from_slice(alloc, &[first.wrapping_add(k)])?,
+        })?;
+    }
+    Ok(())
+}
+
+fn push_wires(alloc: Global, wires: &mut List<Name>, names: &[&str]) -> Result<(), Memory> {
+    for name in names {
+        wires.push(Name::from_slice(alloc, name.as_bytes())?)?;
+    }
+    Ok(())
+}
+
+fn equations_of(alloc: Global, rows: &[(usize, Gate)]) -> Result<List<Equation>, Memory> {
+    let mut equations = List::new(alloc);
+    for (wire, gate) in rows {
+        equations.push(Equation {
+            wire: *wire,
+            expr: gate.expr(alloc)?,
+        })?;
+    }
+    Ok(equations)
+}
+
+// The net of an example.
+fn net_of(alloc: Global, example: &Example) -> Result<Net, Fail> {
+    let mut ports = List::new(alloc);
+    push_ports(alloc, &mut ports, Way::Input, 0, example.inputs)?;
+    push_ports(
+        alloc,
+        &mut ports,
+        Way::Output,
+        example.inputs.len(),
+        example.outputs,
+    )?;
+    let mut wires = List::new(alloc);
+    push_wires(alloc, &mut wires, example.inputs)?;
+    push_wires(alloc, &mut wires, example.outputs)?;
+    push_wires(alloc, &mut wires, example.inner)?;
+    let equations = equations_of(alloc, example.equations)?;
+    match Net::new(alloc, ports, wires, equations, List::new(alloc), None) {
+        Ok(net) => Ok(net),
+        Err(_) => Err(Fail::from("the parts make no net")),
     }
 }
 
-// The same, where it is one.
-fn original_of(alloc: Global, text: &str) -> Result<Original, Fail>
-    ensures { IfOk result IsServed }
-{
-    let found = read_original(alloc, text.as_bytes())?;
-    match found {
-        Some(original) => Ok(original),
-        None => Err(Fail::from("the text is not of the first form")),
+// Its marks: inputs are secure, outputs unmarked.
+fn marks_of(alloc: Global, example: &Example) -> Result<Marks, Memory> {
+    let mut kinds = List::new(alloc);
+    for _ in example.inputs {
+        kinds.push(Mark::Secure)?;
     }
+    for _ in example.outputs {
+        kinds.push(Mark::Unmarked)?;
+    }
+    Ok(Marks { kinds })
 }
 
-// The masked net of a text at an order.
-fn masked_of(alloc: Global, text: &str, order: u32) -> Result<Masked, Fail>
+// The masked net of an example at an order.
+fn masked_of(alloc: Global, example: &Example, order: u32) -> Result<Masked, Fail>
     requires { (1 ≤ order) × (order ≤ 7) }
 {
-    let original = original_of(alloc, text)?;
-    Ok(mask_net(alloc, &original.net, &original.marks, order)?)
+    let net = net_of(alloc, example)?;
+    let marks = marks_of(alloc, example)?;
+    if !is_served(alloc, &net, &marks)? {
+        return Err(Fail::from("the net is not masked"));
+    }
+    Ok(mask_net(alloc, &net, &marks, order)?)
 }
 
 // Adds the names of the shares of ports.
@@ -260,7 +324,7 @@ fn is_masked(alloc: Global, example: &Example, order: u32) -> Result<bool, Fail>
     requires { (1 ≤ order) × (order ≤ 7) }
 {
     let mut drawn = Shuffled { state: order };
-    let masked = masked_of(alloc, example.text, order)?;
+    let masked = masked_of(alloc, example, order)?;
     let names = names_of(alloc, example, order)?;
     Ok(
         is_shaped(&masked, names.as_slice(), example, order)
@@ -276,7 +340,7 @@ fn masks_at_every_order(rt: HostRuntime) -> Result<(), Fail> {
             assert!(rt;
                 is_masked(rt.alloc(), example, order)?,
                 "at {order}: {}",
-                example.text
+                example.name
             );
         }
     }
@@ -290,7 +354,7 @@ const COUNTS: [(usize, usize, usize); 3] = [(10, 4, 0), (44, 24, 13), (24, 14, 0
 #[test]
 fn counts_at_order_one(rt: HostRuntime) -> Result<(), Fail> {
     for (example, (wires, equations, registers)) in EXAMPLES.iter().zip(COUNTS.iter()) {
-        let net = masked_of(rt.alloc(), example.text, 1)?.net;
+        let net = masked_of(rt.alloc(), example, 1)?.net;
         assert_eq!(rt; net.wires.len(), *wires);
         assert_eq!(rt; net.equations.len(), *equations);
         assert_eq!(rt; net.registers.len(), *registers);

@@ -12,3 +12,4 @@ pub mod FirstWires
 pub mod Reports
 pub mod DrivenMask
 pub mod Products
+pub mod ServedNet

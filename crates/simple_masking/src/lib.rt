@@ -9,6 +9,8 @@ mod outputs;
 mod ports;
 mod product;
 mod report;
+mod served;
 
 pub use laws::{masked_is_driven, simple_is_no_product};
 pub use masking::mask_net;
+pub use served::is_served;
