@@ -19,9 +19,16 @@ pub(crate) const HELP: &str =
   for example:  agema mask - examples/parity.v 1 naive pipe parity_masked.v
 
     It prints one line: order, mode, balance, gadgets, random bits a cycle, latency and period in cycles, streams.
-    Built so far: naive and pipe, and netlists of AGM_NOT and AGM_XOR2 cells, in an order in which each cell reads
-    inputs and cells before it, or of one AGM_AND2 cell, every input secure (docs/FORMATS.md, \"The first form\").
-    So no netlist uses the cells of LIB yet; it is read, and refused where it is no library.
+    Built so far: naive and pipe, and netlists of inverters and exclusive ors, or of one product of two inputs, every
+    input secure, without registers (docs/FORMATS.md, \"Simple nets\").
+
+  agema sim LIB NET STIM
+
+    STIM     a stimulus, as JSON: {\"streams\":[{\"initial\":\"0\",\"steps\":[{\"x\":\"1\"}]}]}
+
+  for example:  agema sim - examples/toggle.v examples/toggle.json
+
+    It runs the netlist cycle by cycle, and prints a line for each stream and step with the output ports' bits.
 
   agema --help       prints this
   agema --version    prints the version
@@ -36,8 +43,20 @@ exit status
    7  a word of the command line is not text
   10  a file is longer than 268,435,456 bytes
   11  the cell library is spelled wrongly
+  12  the netlist is spelled wrongly
   13  a cell of the library has the name of an earlier one, or one that begins with AGM_
+  14  an instance's cell is not known
+  15  an instance's cell has no such pin
+  16  a name is not declared, or a select is out of range
+  17  a wire is read and not driven, or driven more than once
+  18  two sides that are connected differ in width
+  19  there is not one top module, or a module is inside itself
+  20  the netlist has a loop
+  21  the marks of ports or the use of the clock are wrong
   23  the design is too large: its operators times shares squared exceed 65,536
+  25  the stimulus is wrong
+  29  a cell of the library cannot be used
+  30  a name is taken
   31  what is asked for is not built yet
 
 A status other than 0 comes with a line on standard error that says why.

@@ -4,7 +4,8 @@
 mod help;
 
 use crate::help::{HELP, VERSION};
-use agema_core::{Ended, run};
+use agema_answers::Ended;
+use agema_core::run;
 use agm_shelf::{FilesShelf, StdSink};
 use std::process::ExitCode;
 use std::{env, io};

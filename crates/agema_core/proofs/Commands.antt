@@ -10,8 +10,8 @@ use Rattle.share_wiring.specs.declared.report.Mode.TheVariants.{Naive, Aig, Bdd}
 use Rattle.share_wiring.specs.declared.report.Balance.{Balance}
 use Rattle.share_wiring.specs.declared.report.Balance.TheVariants.{Pipe, Gate}
 use Rattle.masked_writer.specs.Report.{mode_text, balance_text}
-use Rattle.agema_core.specs.Words.{Mask, IsOrder, IsMask}
-use Rattle.agema_core.specs.Command.{◌>>=◌, order_of, mode_of, balance_of, is_filled, are_names, parts_of, command_of}
+use Rattle.agema_core.specs.Words.{Mask, Sim, IsOrder, IsMask, IsSim, Request, mask, sim, Asks}
+use Rattle.agema_core.specs.Command.{◌>>=◌, order_of, mode_of, balance_of, is_filled, are_names, parts_of, mask_request, command_of}
 
 -- the two ways of a choice
 chosen : {X : Type 0} (b : Bool) (x y z : X) → cond b x y ≡ z → ((b ≡ true) × (x ≡ z)) ⊎ ((b ≡ false) × (y ≡ z))
@@ -121,35 +121,75 @@ parts_read : (m : Mask) → IsOrder m.order → parts_of m.library m.net (decima
 unfolding parts_of
 parts_read m fits = rw (order_read m.order fits, mode_read m.mode, balance_read m.balance) refl
 
--- the words of a command are read as it
-pub command_read : (words : List (List ℕ)) (m : Mask) → IsMask words m → command_of words ≡ Some m
-command_read words m is =
+-- the words of a `mask` command are read as it
+mask_read : (words : List (List ℕ)) (m : Mask) → IsMask words m → command_of words ≡ Some (mask m)
+mask_read words m is =
     let library = some_filled m.library is.has_library in
     let net = some_filled m.net is.has_net in
     let out = some_filled m.out is.has_out in
-    ap command_of is.words_are ∙ rw (library, net, out) (parts_read m is.order_fits)
+    ap command_of is.words_are ∙ rw (library, net, out) (ap mask_request (parts_read m is.order_fits))
 
--- what is read is the command that the words are
-pub read_command : (words : List (List ℕ)) (m : Mask) → command_of words ≡ Some m → IsMask words m
-read_command (command ∷ library ∷ net ∷ order ∷ mode ∷ balance ∷ out ∷ []) m h =
-    elim (chosen (are_names command library net out) (parts_of library net order mode balance out) None (Some m) h) [
+-- those of a `sim` command are read as it
+sim_read : (words : List (List ℕ)) (s : Sim) → IsSim words s → command_of words ≡ Some (sim s)
+sim_read words s is =
+    let library = some_filled s.library is.has_library in
+    let net = some_filled s.net is.has_net in
+    let stimulus = some_filled s.stimulus is.has_stimulus in
+    ap command_of is.words_are ∙ rw (library, net, stimulus) refl
+
+pub command_read : (words : List (List ℕ)) (r : Request) → Asks words r → command_of words ≡ Some r
+command_read words (mask m) is = mask_read words m is
+command_read words (sim s) is = sim_read words s is
+
+-- what names that are none is not empty
+names_are : (own command first second third : List ℕ) → are_names own command first second third ≡ true
+    → (command ≡ own) × (0 < length first) × (0 < length second) × (0 < length third)
+names_are own command first second third h =
+    let one = both (bytes_eq command own) (is_filled first && (is_filled second && is_filled third)) h in
+    let two = both (is_filled first) (is_filled second && is_filled third) one.1 in
+    let three = both (is_filled second) (is_filled third) two.1 in
+    (same_bytes command own one.0, filled_some first two.0, filled_some second three.0, filled_some third three.1)
+
+request_some : (o : Option Mask) (r : Request) → mask_request o ≡ Some r → (m : Mask) × (o ≡ Some m) × (mask m ≡ r)
+request_some None r h = cc
+request_some (Some m) r h = (m, refl, cc)
+
+-- what is read is what the words ask for
+pub read_command : (words : List (List ℕ)) (r : Request) → command_of words ≡ Some r → Asks words r
+read_command (command ∷ library ∷ net ∷ order ∷ mode ∷ balance ∷ out ∷ []) r h =
+    elim (chosen (are_names (codes "mask") command library net out) (mask_request (parts_of library net order mode balance out)) None (Some r) h) [
       | inl y ↦ (
-          let p = read_parts library net order mode balance out m y.1 in
-          let first = both (bytes_eq command (codes "mask")) (is_filled library && (is_filled net && is_filled out)) y.0 in
-          let second = both (is_filled library) (is_filled net && is_filled out) first.1 in
-          let third = both (is_filled net) (is_filled out) second.1 in
-          let word : command ≡ codes "mask" = same_bytes command (codes "mask") first.0 in
-          record {
-            words_are = (let a = p.0 in let b = p.1 in let c = p.2 in let d = p.3 in let e = p.4 in let f = p.5 in cc);
+          let found = request_some (parts_of library net order mode balance out) r y.1 in
+          let m = found.0 in
+          let p = read_parts library net order mode balance out m found.1 in
+          let names = names_are (codes "mask") command library net out y.0 in
+          let is : IsMask (command ∷ library ∷ net ∷ order ∷ mode ∷ balance ∷ out ∷ []) m = record {
+            words_are = (let w = names.0 in let a = p.0 in let b = p.1 in let c = p.2 in let d = p.3 in let e = p.4 in let f = p.5 in cc);
             order_fits = p.6;
-            has_library = rw p.0 (filled_some library second.0);
-            has_net = rw p.1 (filled_some net third.0);
-            has_out = rw p.2 (filled_some out third.1);
-          })
+            has_library = rw p.0 names.1;
+            has_net = rw p.1 names.2;
+            has_out = rw p.2 names.3;
+          } in
+          subst (Asks (command ∷ library ∷ net ∷ order ∷ mode ∷ balance ∷ out ∷ [])) found.2 is)
       | inr n ↦ (let e = n.1 in cc)
     ]
-read_command _ m h = cc
+read_command (command ∷ library ∷ net ∷ stimulus ∷ []) r h =
+    elim (chosen (are_names (codes "sim") command library net stimulus) (Some (sim (record { library = library; net = net; stimulus = stimulus }))) None (Some r) h) [
+      | inl y ↦ (
+          let names = names_are (codes "sim") command library net stimulus y.0 in
+          let s : Sim = record { library = library; net = net; stimulus = stimulus } in
+          let same : sim s ≡ r = (let e = y.1 in cc) in
+          let is : IsSim (command ∷ library ∷ net ∷ stimulus ∷ []) s = record {
+            words_are = (let w = names.0 in cc);
+            has_library = names.1;
+            has_net = names.2;
+            has_stimulus = names.3;
+          } in
+          subst (Asks (command ∷ library ∷ net ∷ stimulus ∷ [])) same is)
+      | inr n ↦ (let e = n.1 in cc)
+    ]
+read_command _ r h = cc
 
 -- words are one command at most
-pub one_command : (words : List (List ℕ)) (m n : Mask) → IsMask words m → IsMask words n → m ≡ n
-one_command words m n p q = let a = command_read words m p in let b = command_read words n q in cc
+pub one_command : (words : List (List ℕ)) (p q : Request) → Asks words p → Asks words q → p ≡ q
+one_command words p q a b = let c = command_read words p a in let d = command_read words q b in cc

@@ -1,55 +1,38 @@
 -- Facts on the causes of answers.
-use Rattle.std.proofs.Common.{◌≡◌, ◌≤◌, ◌<◌, ◌⊎◌, ℕ, List, [], Bool, IsTrue, Option, Some, None, Result, Ok, Err, IfErr, length, map, refl, ap, subst, inl, inr, arith}
-use Rattle.agm_shelf.specs.Shelf.{Rose, text_of}
+use Rattle.std.proofs.Common.{◌≡◌, ◌≤◌, ◌⊎◌, ◌∙◌, ℕ, List, [], Bool, IsTrue, Option, Some, Result, Ok, Err, IfErr, length, map, refl, ap, sym, subst, subst₂, inl, inr, arith}
 use Rattle.agm_net.specs.Plain.{PlainNet}
-use Rattle.agm_net.specs.declared.mark.Mark.{Mark}
+use Rattle.agm_shelf.specs.Shelf.{Contents}
 use Rattle.cell_library.specs.Judged.{PlainCell}
 use Rattle.cell_library.specs.Spelled.{Spelled, cell_name, first_fault}
-use Rattle.small_net.specs.Texts.{StatesFirst}
-use Rattle.agema_core.specs.Words.{Mask}
-use Rattle.agema_core.specs.Masks.{Masks, CanMask, IsNotFirst, IsTooLarge, length_limit, size_limit}
-use Rattle.agema_core.specs.Operators.{size_of}
-use Rattle.agema_core.specs.Answer.{Counts, Found, Holds, Told, HasCause, IsFit, IsTooLong, IsLibrary, IsNoLibrary, HasWrongCell, IsWrongLibrary, IsLibraryEnd, IsNetEnd, IsDelivery, IsComplete, NothingFails}
-use Rattle.agema_core.specs.declared.ended.Ended.{Ended}
-use Rattle.agema_core.specs.declared.ended.Ended.TheVariants.{Done, Usage, ReadFault, WriteFault, PrintFault, Memory, Refused}
-use Rattle.agema_core.specs.declared.ended.Refusal.{Refusal}
-use Rattle.agema_core.specs.declared.ended.Refusal.TheVariants.{TooLong, LibrarySyntax, Cell, TooLarge, NotBuilt}
+use Rattle.agema_texts.specs.Original.{EndsBy, length_limit}
+use Rattle.agema_texts.specs.Masks.{Masks, CanMask, IsUnmasked}
+use Rattle.agema_texts.proofs.Ends.{of_binding}
+use Rattle.agema_texts.specs.Sims.{CanSim, IsClocked, IsUnclocked, IsUndriven, IsBadStimulus, IsSimulated, Sims}
+use Rattle.agema_answers.specs.declared.ended.Ended.{Ended}
+use Rattle.agema_answers.specs.declared.ended.Ended.TheVariants.{Done, Usage, ReadFault, WriteFault, PrintFault, Memory, Refused}
+use Rattle.agema_answers.specs.declared.refusal.Refusal.{Refusal}
+use Rattle.agema_answers.specs.declared.refusal.Refusal.TheVariants.{TooLong, LibrarySyntax, Cell, BadStimulus}
+use Rattle.agema_core.specs.Words.{Mask, Sim, Request, mask, sim, Asks, HasOrder}
+use Rattle.agema_core.specs.Found.{Counts, Found, Holds, Told, IsTooLong, IsDash, IsLibrary, IsNoLibrary, HasWrongCell, IsWrongLibrary, AreCells, HoldsBoth, ToldBoth, IsLibraryEnd, IsInputEnd, IsReadEnd, IsPrintEnd}
+use Rattle.agema_core.specs.Answer.{HasCause, AtLibraryOr, MaskFits, SimFits, IsRunnable, IsMaskEnd, IsSimEnd, IsComplete, NothingFails}
+use Rattle.agema_core.specs.Left.{IsDelivery}
 
 -- the words of a command are not refused as words
-net_not_usage : (m : Mask) (f : Found) (before now : Counts) (ended : Ended) → IsNetEnd m f before now ended → ended ≡ Usage → Prim.⊥
-net_not_usage m f before now ended h e = let P : Ended → Type 0 = λ x. IsNetEnd m f before now x in subst P e h
+mask_not_usage : (m : Mask) (f : Found) (before now : Counts) (ended : Ended) → IsMaskEnd m f before now ended → ended ≡ Usage → Prim.⊥
+mask_not_usage m f before now ended h e = let P : Ended → Type 0 = λ x. IsMaskEnd m f before now x in subst P e h
+
+sim_not_usage : (s : Sim) (f : Found) (before now : Counts) (ended : Ended) → IsSimEnd s f before now ended → ended ≡ Usage → Prim.⊥
+sim_not_usage s f before now ended h e = let P : Ended → Type 0 = λ x. IsSimEnd s f before now x in subst P e h
 
 library_not_usage : (name : List ℕ) (tells sound : Bool) (held : Option (List ℕ)) (before now : ℕ) (ended : Ended) → IsLibraryEnd name tells sound held before now ended → ended ≡ Usage → Prim.⊥
 library_not_usage name tells sound held before now ended h e = let P : Ended → Type 0 = λ x. IsLibraryEnd name tells sound held before now x in subst P e h
 
-pub not_usage : (m : Mask) (f : Found) (before now : Counts) (ended : Ended) → HasCause m f before now ended → ended ≡ Usage → Prim.⊥
-not_usage m f before now ended cause e = elim cause [
-  | inl words ↦ (let other = words.1 in cc)
-  | inr later ↦ elim later [
-    | inl library ↦ library_not_usage m.library f.tells f.sound f.library before.reads now.reads ended library.2 e
-    | inr net ↦ net_not_usage m f before now ended net.2 e
-  ]
-]
-
--- a held text that is longer than a limit
-pub longer_held : (held : Option (List ℕ)) → length_limit < length (text_of held) → Holds held IsTooLong
-longer_held None h = absurd (omega arith)
-longer_held (Some text) h = (text, refl, h)
-
--- by the law that a text of the first form states one net
-abbrev pub StatesOnce : Type 0
-StatesOnce = (text : List ℕ) (m n : PlainNet) (marks others : List Mark) → StatesFirst text m marks → StatesFirst text n others → (m ≡ n) × (marks ≡ others)
-
--- a text's net is not both too large and not
-not_too_large : (text : List ℕ) (order operators : ℕ) → StatesOnce → CanMask text order → IsTooLarge text order operators → Prim.⊥
-not_too_large text order operators once (net, marks, states, fits) (other, others, stated, count, large) =
-    let same = (once text net other marks others states stated).0 in
-    let P : PlainNet → Type 0 = λ n. size_of n order ≤ size_limit in
-    let small : size_of other order ≤ size_limit = subst P same fits in
-    absurd (omega arith)
-
-not_other : (text : List ℕ) (order : ℕ) → CanMask text order → IsNotFirst text → Prim.⊥
-not_other text order (net, marks, (s, spelled, first, states), fits) other = other s spelled first
+pub not_usage : (r : Request) (f : Found) (before now : Counts) (ended : Ended) → HasCause r f before now ended → ended ≡ Usage → Prim.⊥
+not_usage (mask m) f before now ended (inl words) e = let other = words.1 in cc
+not_usage (mask m) f before now ended (inr (built, inl at)) e = library_not_usage m.library f.tells f.sound (f.holds m.library) before.reads now.reads ended at.1 e
+not_usage (mask m) f before now ended (inr (built, inr behind)) e = mask_not_usage m f before now ended behind.1 e
+not_usage (sim s) f before now ended (inl at) e = library_not_usage s.library f.tells f.sound (f.holds s.library) before.reads now.reads ended at.1 e
+not_usage (sim s) f before now ended (inr behind) e = sim_not_usage s f before now ended behind.1 e
 
 -- what is told of the text that is held
 told_of : (tells : Bool) (held : Option (List ℕ)) (Fact : List ℕ → Type 0) (text : List ℕ) → held ≡ Some text → IsTrue tells → Told tells held Fact → Fact text
@@ -58,128 +41,278 @@ told_of tells held Fact text is heard told =
     let same : other.0 ≡ text = (let e = other.1 in cc) in
     subst Fact same other.2
 
--- a count that rose since a later time rose since an earlier one
-pub rose_earlier : (first second now : ℕ) → first ≤ second → Rose second now → Rose first now
-rose_earlier first second now le rose = omega arith
-
--- a told text is the one that is held
-pub told_text : (tells : Bool) (held : Option (List ℕ)) (Fact : List ℕ → Type 0) (text : List ℕ) → (IsTrue tells → held ≡ Some text) → Fact text → Told tells held Fact
-told_text tells held Fact text is fact = λ t. (text, is t, fact)
-
--- what is masked can be masked
-pub can_mask : (text : List ℕ) (order : ℕ) (out file line : List ℕ) → Masks text order out file line → CanMask text order
-can_mask text order out file line masks = (masks.original, masks.marks, masks.is_read, masks.fits)
-
 -- what is wrong with the bytes that were read is wrong with what is held
 pub library_wrong : (name : List ℕ) (tells sound : Bool) (held : Option (List ℕ)) (before now : ℕ) (text : List ℕ) → (IsTrue tells → held ≡ Some text) → (ended : Ended) → IsWrongLibrary text ended → IsLibraryEnd name tells sound held before now ended
-library_wrong name tells sound held before now text is Done h = absurd h
-library_wrong name tells sound held before now text is Usage h = absurd h
-library_wrong name tells sound held before now text is (ReadFault file) h = absurd h
-library_wrong name tells sound held before now text is (WriteFault file) h = absurd h
-library_wrong name tells sound held before now text is PrintFault h = absurd h
 library_wrong name tells sound held before now text is Memory h = tt
-library_wrong name tells sound held before now text is (Refused (TooLong file)) h = absurd h
 library_wrong name tells sound held before now text is (Refused (LibrarySyntax at)) h = λ t. (text, is t, h)
 library_wrong name tells sound held before now text is (Refused (Cell cell cause)) h = λ t. (text, is t, h)
-library_wrong name tells sound held before now text is (Refused (TooLarge operators)) h = absurd h
-library_wrong name tells sound held before now text is (Refused NotBuilt) h = absurd h
-
--- where the writing and the printing end a run
-pub delivered_end : (m : Mask) (f : Found) (before now : Counts) (mid : ℕ) → before.writes ≤ mid → Told f.tells f.held (IsFit m) → (ended : Ended) → IsDelivery m.out f.sound f.prints mid now.writes before.prints now.prints ended → IsNetEnd m f before now ended
-delivered_end m f before now mid le fit Done d = fit
-delivered_end m f before now mid le fit Usage d = absurd d
-delivered_end m f before now mid le fit (ReadFault file) d = absurd d
-delivered_end m f before now mid le fit (WriteFault file) d = (fit, d.0, (rose_earlier before.writes mid now.writes le d.1.0, d.1.1))
-delivered_end m f before now mid le fit PrintFault d = (fit, d)
-delivered_end m f before now mid le fit Memory d = d
-delivered_end m f before now mid le fit (Refused refusal) d = absurd d
-
-fits_not_refused : (m : Mask) (f : Found) (before now : Counts) (refusal : Refusal) (text : List ℕ) → StatesOnce → IsTrue f.tells → f.held ≡ Some text → IsFit m text → IsNetEnd m f before now (Refused refusal) → Prim.⊥
-fits_not_refused m f before now (TooLong file) text once tells is fit cause =
-    let long = told_of f.tells f.held IsTooLong text is tells cause.1 in
-    let short = fit.0 in
-    absurd (omega arith)
-fits_not_refused m f before now (LibrarySyntax at) text once tells is fit cause = cause
-fits_not_refused m f before now (Cell name wrong) text once tells is fit cause = cause
-fits_not_refused m f before now (TooLarge operators) text once tells is fit cause =
-    let large = told_of f.tells f.held (λ t. (length t ≤ length_limit) × IsTooLarge t m.order operators) text is tells cause in
-    not_too_large text m.order operators once fit.1 large.1
-fits_not_refused m f before now NotBuilt text once tells is fit cause =
-    let other = told_of f.tells f.held (λ t. (length t ≤ length_limit) × IsNotFirst t) text is tells cause in not_other text m.order fit.1 other.1
+library_wrong name tells sound held before now text is _ h = absurd h
 
 -- by the law that no text spells two libraries
 abbrev pub SpellsOnce : Type 0
 SpellsOnce = (bytes : List ℕ) (cells more : List PlainCell) → Spelled bytes cells → Spelled bytes more → cells ≡ more
 
+-- LIB has one list of cells
+one_cells : SpellsOnce → (name : List ℕ) (holds : Contents) (cells more : List PlainCell) → AreCells name holds cells → AreCells name holds more → cells ≡ more
+one_cells once name holds cells more (inl (dash, none)) (inl (too, nothing)) = none ∙ sym nothing
+one_cells once name holds cells more (inl (dash, none)) (inr (not, held)) = absurd (not dash)
+one_cells once name holds cells more (inr (not, held)) (inl (dash, none)) = absurd (not dash)
+one_cells once name holds cells more (inr (not, (text, is, library))) (inr (too, (other, are, found))) =
+    let same : text ≡ other = cc in
+    let P : List ℕ → Type 0 = λ t. Spelled t cells in
+    once other cells more (subst P same library.1) found.1
+
+-- two facts of LIB and NET hold of the same cells and text
+pub both_hold : SpellsOnce → (library net : List ℕ) (holds : Contents) (First Second : List PlainCell → List ℕ → Type 0) → HoldsBoth library net holds First → HoldsBoth library net holds Second
+    → (cells : List PlainCell) × (text : List ℕ) × (holds net ≡ Some text) × First cells text × Second cells text
+both_hold once library net holds First Second (cells, are, (text, is, fact)) (more, too, (other, held, second)) =
+    let same_cells : more ≡ cells = one_cells once library holds more cells too are in
+    let same_text : other ≡ text = cc in
+    let P : List PlainCell → List ℕ → Type 0 = λ c t. Second c t in
+    (cells, text, is, fact, subst₂ P same_cells same_text second)
+
 -- the text of a library is not refused
-library_not_refused : (name : List ℕ) (tells sound : Bool) (held : Option (List ℕ)) (before now : ℕ) (refusal : Refusal) (text : List ℕ) → SpellsOnce → IsTrue tells → held ≡ Some text → IsLibrary text → IsLibraryEnd name tells sound held before now (Refused refusal) → Prim.⊥
-library_not_refused name tells sound held before now (TooLong file) text once told is library end =
+library_not_refused : (name : List ℕ) (tells sound : Bool) (held : Option (List ℕ)) (before now : ℕ) (refusal : Refusal) (cells : List PlainCell) (text : List ℕ) → SpellsOnce → IsTrue tells → held ≡ Some text → IsLibrary cells text → IsLibraryEnd name tells sound held before now (Refused refusal) → Prim.⊥
+library_not_refused name tells sound held before now (TooLong file) cells text once told is library end =
     let long = told_of tells held IsTooLong text is told end.1 in
     let short = library.0 in
     absurd (omega arith)
-library_not_refused name tells sound held before now (LibrarySyntax at) text once told is library end =
-    let wrong = told_of tells held (IsNoLibrary at) text is told end in wrong.1 library.1 library.2
-library_not_refused name tells sound held before now (Cell cell cause) text once told is library end =
+library_not_refused name tells sound held before now (LibrarySyntax at) cells text once told is library end =
+    let wrong = told_of tells held (IsNoLibrary at) text is told end in wrong.1 cells library.1
+library_not_refused name tells sound held before now (Cell cell cause) cells text once told is library end =
     let wrong = told_of tells held (HasWrongCell cell cause) text is told end in
-    let same = ap (λ cells. first_fault [] (map cell_name cells)) (once text library.1 wrong.1 library.2 wrong.2) in
-    let none = library.3 in
+    let same = ap (λ cells. first_fault [] (map cell_name cells)) (once text cells wrong.1 library.1 wrong.2) in
+    let none = library.2 in
     let some = wrong.3 in
     cc
-library_not_refused name tells sound held before now (TooLarge operators) text once told is library end = end
-library_not_refused name tells sound held before now NotBuilt text once told is library end = end
+library_not_refused name tells sound held before now _ cells text once told is library end = end
 
 tells_of : (f : Found) (before now : Counts) → (IsTrue f.sound → IsTrue f.tells) → NothingFails f before now → IsTrue f.tells
 tells_of f before now sound (inl (tells, none)) = tells
 tells_of f before now sound (inr (is, prints)) = sound is
 
--- a run does not end at a library, but for want of memory
-library_completes : (m : Mask) (f : Found) (before now : Counts) (ended : Ended) → SpellsOnce → (IsTrue f.sound → IsTrue f.tells) → IsLibraryEnd m.library f.tells f.sound f.library before.reads now.reads ended → Holds f.library IsLibrary → NothingFails f before now → (ended ≡ Done) ⊎ (ended ≡ Memory)
-library_completes m f before now Done once sound end held nothing = inl refl
-library_completes m f before now Usage once sound end held nothing = absurd end
-library_completes m f before now (ReadFault file) once sound end held nothing = elim nothing [
+-- a run does not end at a library that is held, but for want of memory
+library_completes : (name : List ℕ) (f : Found) (before now : Counts) (ended : Ended) (cells : List PlainCell) → SpellsOnce → (IsTrue f.sound → IsTrue f.tells)
+    → IsLibraryEnd name f.tells f.sound (f.holds name) before.reads now.reads ended → Holds (f.holds name) (IsLibrary cells) → NothingFails f before now → (ended ≡ Done) ⊎ (ended ≡ Memory)
+library_completes name f before now (ReadFault file) cells once sound end held nothing = elim nothing [
   | inl counts ↦ absurd (counts.1.reads end.1.0)
   | inr sure ↦ (let none = end.1.1 sure.0 in let some = held.1 in cc)
 ]
-library_completes m f before now (WriteFault file) once sound end held nothing = absurd end
-library_completes m f before now PrintFault once sound end held nothing = absurd end
-library_completes m f before now Memory once sound end held nothing = inr refl
-library_completes m f before now (Refused refusal) once sound end held nothing =
-    absurd (library_not_refused m.library f.tells f.sound f.library before.reads now.reads refusal held.0 once (tells_of f before now sound nothing) held.1 held.2 end)
+library_completes name f before now Memory cells once sound end held nothing = inr refl
+library_completes name f before now (Refused refusal) cells once sound end held nothing =
+    absurd (library_not_refused name f.tells f.sound (f.holds name) before.reads now.reads refusal cells held.0 once (tells_of f before now sound nothing) held.1 held.2 end)
+library_completes name f before now _ cells once sound end held nothing = absurd end
 
--- nor does it behind it
-net_completes : (m : Mask) (f : Found) (before now : Counts) (ended : Ended) → StatesOnce → (IsTrue f.sound → IsTrue f.tells) → IsNetEnd m f before now ended → Holds f.held (IsFit m) → NothingFails f before now → (ended ≡ Done) ⊎ (ended ≡ Memory)
-net_completes m f before now Done once sound end held nothing = inl refl
-net_completes m f before now Memory once sound end held nothing = inr refl
-net_completes m f before now Usage once sound end held nothing = absurd end
-net_completes m f before now (ReadFault file) once sound end held nothing = elim nothing [
+at_library : (name : List ℕ) (f : Found) (before now : Counts) (ended : Ended) (cells : List PlainCell) → SpellsOnce → (IsTrue f.sound → IsTrue f.tells)
+    → (IsDash name → Prim.⊥) → IsLibraryEnd name f.tells f.sound (f.holds name) before.reads now.reads ended → AreCells name f.holds cells → NothingFails f before now → (ended ≡ Done) ⊎ (ended ≡ Memory)
+at_library name f before now ended cells once sound named end (inl (dash, none)) nothing = absurd (named dash)
+at_library name f before now ended cells once sound named end (inr (not, held)) nothing = library_completes name f before now ended cells once sound end held nothing
+
+-- by the laws that texts determine what is masked and run
+abbrev pub MaskedOnce : Type 0
+MaskedOnce = (cells : List PlainCell) (bytes : List ℕ) (order : ℕ) (refusal : Refusal) → CanMask cells bytes order → IsUnmasked cells bytes order refusal → Prim.⊥
+
+pub record RunsOnce : Type 0 where
+  pub net : (cells : List PlainCell) (bytes : List ℕ) (m n : PlainNet) → IsClocked cells bytes m → IsClocked cells bytes n → m ≡ n
+  pub clocked : (cells : List PlainCell) (bytes : List ℕ) (net : PlainNet) (refusal : Refusal) → IsClocked cells bytes net → IsUnclocked cells bytes refusal → Prim.⊥
+  pub driven : (cells : List PlainCell) (bytes stimulus : List ℕ) (refusal : Refusal) → CanSim cells bytes stimulus → IsUndriven cells bytes stimulus refusal → Prim.⊥
+
+-- the text of an original is not too long
+short_original : (m : Mask) (cells : List PlainCell) (text : List ℕ) → MaskFits m cells text → length text ≤ length_limit
+short_original m cells text (net, marks, is, fits, served) = is.read.short
+
+-- a netlist that can be masked is not refused
+mask_not_refused : (m : Mask) (f : Found) (before now : Counts) (refusal : Refusal) → SpellsOnce → MaskedOnce → IsTrue f.tells → HoldsBoth m.library m.net f.holds (MaskFits m) → IsMaskEnd m f before now (Refused refusal) → Prim.⊥
+mask_not_refused m f before now (TooLong file) once masked tells (cells, are, (text, is, fits)) end =
+    let long = told_of f.tells (f.holds m.net) IsTooLong text is tells end.1 in
+    let short = short_original m cells text fits in
+    absurd (omega arith)
+mask_not_refused m f before now refusal once masked tells held end =
+    let found = both_hold once m.library m.net f.holds (MaskFits m) (λ cells text. IsUnmasked cells text m.order refusal) held (end tells) in
+    masked found.0 found.1 m.order refusal found.3 found.4
+
+mask_completes : (m : Mask) (f : Found) (before now : Counts) (ended : Ended) → SpellsOnce → MaskedOnce → (IsTrue f.sound → IsTrue f.tells) → IsMaskEnd m f before now ended → HoldsBoth m.library m.net f.holds (MaskFits m) → NothingFails f before now → (ended ≡ Done) ⊎ (ended ≡ Memory)
+mask_completes m f before now Done once masked sound end held nothing = inl refl
+mask_completes m f before now Memory once masked sound end held nothing = inr refl
+mask_completes m f before now Usage once masked sound end held nothing = absurd end
+mask_completes m f before now (ReadFault file) once masked sound end (cells, are, text) nothing = elim nothing [
   | inl counts ↦ absurd (counts.1.reads end.1.0)
-  | inr sure ↦ (let none = end.1.1 sure.0 in let some = held.1 in cc)
+  | inr sure ↦ (let none = end.1.1 sure.0 in let some = text.1 in cc)
 ]
-net_completes m f before now (WriteFault file) once sound end held nothing = elim nothing [
+mask_completes m f before now (WriteFault file) once masked sound end held nothing = elim nothing [
   | inl counts ↦ absurd (counts.1.writes end.2.0)
   | inr sure ↦ absurd (end.2.1 sure.0)
 ]
-net_completes m f before now PrintFault once sound end held nothing = elim nothing [
+mask_completes m f before now PrintFault once masked sound end held nothing = elim nothing [
   | inl counts ↦ absurd (counts.1.prints end.1.0)
   | inr sure ↦ absurd (end.1.1 sure.1)
 ]
-net_completes m f before now (Refused refusal) once sound end held nothing =
-    absurd (fits_not_refused m f before now refusal held.0 once (tells_of f before now sound nothing) held.1 held.2 end)
+mask_completes m f before now (Refused refusal) once masked sound end held nothing =
+    absurd (mask_not_refused m f before now refusal once masked (tells_of f before now sound nothing) held end)
+
+-- the texts of a simulation are not too long
+short_clocked : (cells : List PlainCell) (text : List ℕ) (net : PlainNet) → IsClocked cells text net → length text ≤ length_limit
+short_clocked cells text net (design, read, keeps) = read.short
+
+-- a netlist with a stimulus that can be simulated is not refused
+sim_not_refused : (s : Sim) (f : Found) (before now : Counts) (refusal : Refusal) → SpellsOnce → RunsOnce → IsTrue f.tells → HoldsBoth s.library s.net f.holds (SimFits s f) → IsSimEnd s f before now (Refused refusal) → Prim.⊥
+sim_not_refused s f before now (TooLong file) once runs tells (cells, are, (text, is, (stimulus, drives, (net, streams, clocked, has)))) (inl (named, long)) =
+    let above = told_of f.tells (f.holds s.net) IsTooLong text is tells long in
+    let short = short_clocked cells text net clocked in
+    absurd (omega arith)
+sim_not_refused s f before now (TooLong file) once runs tells (cells, are, (text, is, (stimulus, drives, (net, streams, clocked, has)))) (inr (runnable, named, long)) =
+    let above = told_of f.tells (f.holds s.stimulus) IsTooLong stimulus drives tells long in
+    let short = has.0 in
+    absurd (omega arith)
+sim_not_refused s f before now (BadStimulus cause stream step) once runs tells held end =
+    let Bad : List PlainCell → List ℕ → Type 0 = λ cells text. Holds (f.holds s.stimulus) (λ stimulus. IsUndriven cells text stimulus (BadStimulus cause stream step)) in
+    let found = both_hold once s.library s.net f.holds (SimFits s f) Bad held (end tells) in
+    let fits = found.3 in
+    let bad = found.4 in
+    let same : bad.0 ≡ fits.0 = (let e = fits.1 in let d = bad.1 in cc) in
+    let P : List ℕ → Type 0 = λ t. IsUndriven found.0 found.1 t (BadStimulus cause stream step) in
+    runs.driven found.0 found.1 fits.0 (BadStimulus cause stream step) fits.2 (subst P same bad.2)
+sim_not_refused s f before now refusal once runs tells held end =
+    let found = both_hold once s.library s.net f.holds (SimFits s f) (λ cells text. IsUnclocked cells text refusal) held (end tells) in
+    let fits = found.3.2 in
+    runs.clocked found.0 found.1 fits.0 refusal fits.2 found.4
+
+sim_completes : (s : Sim) (f : Found) (before now : Counts) (ended : Ended) → SpellsOnce → RunsOnce → (IsTrue f.sound → IsTrue f.tells) → IsSimEnd s f before now ended → HoldsBoth s.library s.net f.holds (SimFits s f) → NothingFails f before now → (ended ≡ Done) ⊎ (ended ≡ Memory)
+sim_completes s f before now Done once runs sound end held nothing = inl refl
+sim_completes s f before now Memory once runs sound end held nothing = inr refl
+sim_completes s f before now Usage once runs sound end held nothing = absurd end
+sim_completes s f before now (WriteFault file) once runs sound end held nothing = absurd end
+sim_completes s f before now (ReadFault file) once runs sound (inl (named, fails)) (cells, are, (text, is, fits)) nothing = elim nothing [
+  | inl counts ↦ absurd (counts.1.reads fails.0)
+  | inr sure ↦ (let none = fails.1 sure.0 in cc)
+]
+sim_completes s f before now (ReadFault file) once runs sound (inr (runnable, named, fails)) (cells, are, (text, is, (stimulus, drives, fits))) nothing = elim nothing [
+  | inl counts ↦ absurd (counts.1.reads fails.0)
+  | inr sure ↦ (let none = fails.1 sure.0 in cc)
+]
+sim_completes s f before now PrintFault once runs sound end held nothing = elim nothing [
+  | inl counts ↦ absurd (counts.1.prints end.1.0)
+  | inr sure ↦ absurd (end.1.1 sure.1)
+]
+sim_completes s f before now (Refused refusal) once runs sound end held nothing =
+    absurd (sim_not_refused s f before now refusal once runs (tells_of f before now sound nothing) held end)
 
 -- completeness follows from the causes
-pub completes : (m : Mask) (f : Found) (before now : Counts) (ended : Ended) → StatesOnce → SpellsOnce → (IsTrue f.sound → IsTrue f.tells) → HasCause m f before now ended → IsComplete m f before now ended
-completes m f before now ended once spelled sound cause built library held nothing = elim cause [
-  | inl words ↦ absurd (words.0 built)
-  | inr later ↦ elim later [
-    | inl at ↦ elim library [
-      | inl dash ↦ absurd (at.1 dash)
-      | inr text ↦ library_completes m f before now ended spelled sound at.2 text nothing
-    ]
-    | inr net ↦ net_completes m f before now ended once sound net.2 held nothing
-  ]
-]
+pub completes : (r : Request) (f : Found) (before now : Counts) (ended : Ended) → SpellsOnce → MaskedOnce → RunsOnce → (IsTrue f.sound → IsTrue f.tells) → HasCause r f before now ended → IsComplete r f before now ended
+completes (mask m) f before now ended once masked runs sound (inl words) (built, held) nothing = absurd (words.0 built)
+completes (mask m) f before now ended once masked runs sound (inr (is, inl (named, at))) (built, (cells, are, text)) nothing = at_library m.library f before now ended cells once sound named at are nothing
+completes (mask m) f before now ended once masked runs sound (inr (is, inr (has, behind))) (built, held) nothing = mask_completes m f before now ended once masked sound behind held nothing
+completes (sim s) f before now ended once masked runs sound (inl (named, at)) (cells, are, text) nothing = at_library s.library f before now ended cells once sound named at are nothing
+completes (sim s) f before now ended once masked runs sound (inr (has, behind)) held nothing = sim_completes s f before now ended once runs sound behind held nothing
+
+-- what was read is told of LIB and NET
+pub told_both : (library net : List ℕ) (f : Found) (Fact : List PlainCell → List ℕ → Type 0) (cells : List PlainCell) (text : List ℕ) → (IsTrue f.tells → AreCells library f.holds cells) → (IsTrue f.tells → f.holds net ≡ Some text) → Fact cells text → ToldBoth library net f Fact
+told_both library net f Fact cells text are is fact = λ t. (cells, are t, (text, is t, fact))
+
+-- a refusal for which there is a reason ends `mask`
+pub refused_mask : (m : Mask) (f : Found) (before now : Counts) (cells : List PlainCell) (text : List ℕ) → (IsTrue f.tells → AreCells m.library f.holds cells) → (IsTrue f.tells → f.holds m.net ≡ Some text)
+    → (ended : Ended) → EndsBy (IsUnmasked cells text m.order) ended → IsMaskEnd m f before now ended
+refused_mask m f before now cells text are is Memory h = tt
+refused_mask m f before now cells text are is (Refused (TooLong file)) (short, design, spelled, fault, fails, told) = absurd (of_binding fault (TooLong file) told)
+refused_mask m f before now cells text are is (Refused refusal) h = told_both m.library m.net f (λ cells text. IsUnmasked cells text m.order refusal) cells text are is h
+refused_mask m f before now cells text are is _ h = absurd h
+
+-- where the writing and the printing end `mask`
+pub delivered_end : (m : Mask) (f : Found) (before now : Counts) (mid : ℕ) → before.writes ≤ mid → ToldBoth m.library m.net f (MaskFits m) → (ended : Ended) → IsDelivery m.out f.sound f.prints mid now.writes before.prints now.prints ended → IsMaskEnd m f before now ended
+delivered_end m f before now mid le fit Done d = fit
+delivered_end m f before now mid le fit (WriteFault file) d = (fit, d.0, ((let rose = d.1.0 in omega arith), d.1.1))
+delivered_end m f before now mid le fit PrintFault d = (fit, d)
+delivered_end m f before now mid le fit Memory d = tt
+delivered_end m f before now mid le fit _ d = absurd d
+
+-- a refusal for which there is a reason ends `sim` at the netlist
+pub refused_sim : (s : Sim) (f : Found) (before now : Counts) (cells : List PlainCell) (text : List ℕ) → (IsTrue f.tells → AreCells s.library f.holds cells) → (IsTrue f.tells → f.holds s.net ≡ Some text)
+    → (ended : Ended) → EndsBy (IsUnclocked cells text) ended → IsSimEnd s f before now ended
+refused_sim s f before now cells text are is Memory h = tt
+refused_sim s f before now cells text are is (Refused (TooLong file)) (short, design, spelled, fault, fails, told) = absurd (of_binding fault (TooLong file) told)
+refused_sim s f before now cells text are is (Refused (BadStimulus cause stream step)) (short, design, spelled, fault, fails, told) = absurd (of_binding fault (BadStimulus cause stream step) told)
+refused_sim s f before now cells text are is (Refused refusal) h = told_both s.library s.net f (λ cells text. IsUnclocked cells text refusal) cells text are is h
+refused_sim s f before now cells text are is _ h = absurd h
+
+-- where the reading of the stimulus ends `sim`
+pub unread_stimulus : (s : Sim) (f : Found) (before now : Counts) (mid : ℕ) → before.reads ≤ mid → ToldBoth s.library s.net f IsRunnable → (ended : Ended) → IsReadEnd s.stimulus f.tells f.sound (f.holds s.stimulus) mid now.reads ended → IsSimEnd s f before now ended
+unread_stimulus s f before now mid le runs (ReadFault file) (named, (rose, none)) = inr (runs, named, (omega arith, none))
+unread_stimulus s f before now mid le runs Memory h = tt
+unread_stimulus s f before now mid le runs (Refused (TooLong file)) (named, long) = inr (runs, named, long)
+unread_stimulus s f before now mid le runs _ h = absurd h
+
+-- a refusal of the stimulus ends `sim`
+pub refused_stimulus : (s : Sim) (f : Found) (before now : Counts) (cells : List PlainCell) (text stimulus : List ℕ) (net : PlainNet) → (IsTrue f.tells → AreCells s.library f.holds cells) → (IsTrue f.tells → f.holds s.net ≡ Some text) → (IsTrue f.tells → f.holds s.stimulus ≡ Some stimulus)
+    → IsClocked cells text net → (ended : Ended) → EndsBy (IsBadStimulus net stimulus) ended → IsSimEnd s f before now ended
+refused_stimulus s f before now cells text stimulus net are is drives clocked Memory h = tt
+refused_stimulus s f before now cells text stimulus net are is drives clocked (Refused (BadStimulus cause stream step)) h = λ t. (cells, are t, (text, is t, (stimulus, drives t, (net, clocked, h))))
+refused_stimulus s f before now cells text stimulus net are is drives clocked (Refused _) h = absurd h
+refused_stimulus s f before now cells text stimulus net are is drives clocked _ h = absurd h
+
+-- where the printing ends `sim`
+pub printed_end : (s : Sim) (f : Found) (before now : Counts) → ToldBoth s.library s.net f (SimFits s f) → (ended : Ended) → IsPrintEnd f.prints before.prints now.prints ended → IsSimEnd s f before now ended
+printed_end s f before now fits Done d = fits
+printed_end s f before now fits PrintFault d = (fits, d)
+printed_end s f before now fits Memory d = tt
+printed_end s f before now fits _ d = absurd d
+
+-- a run that ends at a file that it reads ends by `mask` or `sim`
+pub read_end_mask : (m : Mask) (f : Found) (before now : Counts) (ended : Ended) → IsReadEnd m.net f.tells f.sound (f.holds m.net) before.reads now.reads ended → IsMaskEnd m f before now ended
+read_end_mask m f before now (ReadFault file) h = h
+read_end_mask m f before now Memory h = tt
+read_end_mask m f before now (Refused (TooLong file)) h = h
+read_end_mask m f before now _ h = absurd h
+
+pub read_end_sim : (s : Sim) (f : Found) (before now : Counts) (ended : Ended) → IsReadEnd s.net f.tells f.sound (f.holds s.net) before.reads now.reads ended → IsSimEnd s f before now ended
+read_end_sim s f before now (ReadFault file) h = inl h
+read_end_sim s f before now Memory h = tt
+read_end_sim s f before now (Refused (TooLong file)) h = inl h
+read_end_sim s f before now _ h = absurd h
 
 -- what follows of an error
 pub err_map : {T E : Type 0} {P Q : E → Type 0} (r : Result T E) → IfErr r P → ((e : E) → P e → Q e) → IfErr r Q
 err_map (Ok x) h f = tt
 err_map (Err e) h f = f e h
+
+-- a run that ends at a file that is read before the work
+pub input_end_mask : (m : Mask) (f : Found) (before now : Counts) (ended : Ended) → IsInputEnd m.library m.net f before.reads now.reads ended → AtLibraryOr m.library f before now ended (IsMaskEnd m f before now ended)
+input_end_mask m f before now ended (inl at) = inl at
+input_end_mask m f before now ended (inr (has, read)) = inr (has, read_end_mask m f before now ended read)
+
+pub input_end_sim : (s : Sim) (f : Found) (before now : Counts) (ended : Ended) → IsInputEnd s.library s.net f before.reads now.reads ended → AtLibraryOr s.library f before now ended (IsSimEnd s f before now ended)
+input_end_sim s f before now ended (inl at) = inl at
+input_end_sim s f before now ended (inr (has, read)) = inr (has, read_end_sim s f before now ended read)
+
+-- a read's end, over a shelf that tells and holds the same
+pub read_end_over : (name : List ℕ) (t u s v : Bool) (h k : Option (List ℕ)) (before now : ℕ) (ended : Ended) → t ≡ u → s ≡ v → h ≡ k → IsReadEnd name t s h before now ended → IsReadEnd name u v k before now ended
+read_end_over name t u s v h k before now ended tells sounds holds end =
+    let A : Bool → Type 0 = λ b. IsReadEnd name b s h before now ended in
+    let B : Bool → Type 0 = λ b. IsReadEnd name u b h before now ended in
+    let C : Option (List ℕ) → Type 0 = λ o. IsReadEnd name u v o before now ended in
+    subst C holds (subst B sounds (subst A tells end))
+
+-- what is masked can be masked
+pub can_mask : (cells : List PlainCell) (text : List ℕ) (order : ℕ) (out file line : List ℕ) → Masks cells text order out file line → CanMask cells text order
+can_mask cells text order out file line masks = (masks.original, masks.marks, masks.is_original, masks.fits, masks.served)
+
+-- what was read and simulated is told of LIB, NET and STIM
+pub told_stimulus : (s : Sim) (f : Found) (cells : List PlainCell) (text drive printed : List ℕ) (net : PlainNet) → (IsTrue f.tells → AreCells s.library f.holds cells) → (IsTrue f.tells → f.holds s.net ≡ Some text) → (IsTrue f.tells → f.holds s.stimulus ≡ Some drive)
+    → IsClocked cells text net → IsSimulated net drive printed → ToldBoth s.library s.net f (SimFits s f)
+told_stimulus s f cells text drive printed net are is drives clocked ran = λ t. (cells, are t, (text, is t, (drive, drives t, (net, ran.0, clocked, ran.1))))
+
+pub sims_told : (s : Sim) (told : Bool) (old : Contents) (cells : List PlainCell) (text drive whole printed : List ℕ) (net : PlainNet) → printed ≡ whole
+    → (IsTrue told → AreCells s.library old cells) → (IsTrue told → old s.net ≡ Some text) → (IsTrue told → old s.stimulus ≡ Some drive)
+    → IsClocked cells text net → IsSimulated net drive whole
+    → IsTrue told → HoldsBoth s.library s.net old (λ cells text. Holds (old s.stimulus) (λ stimulus. Sims cells text stimulus printed))
+sims_told s told old cells text drive whole printed net e are is drives clocked ran t =
+    (cells, are t, (text, is t, (drive, drives t, record { net = net; is_clocked = clocked; simulated = subst (λ p. IsSimulated net drive p) (sym e) ran })))
+
+-- the order of a command that was read
+pub order_fits : (words : List (List ℕ)) (r : Request) → Asks words r → HasOrder r
+order_fits words (mask m) is = is.order_fits
+order_fits words (sim s) is = tt
+
+pub runs_once : ((cells : List PlainCell) (bytes : List ℕ) (m n : PlainNet) → IsClocked cells bytes m → IsClocked cells bytes n → m ≡ n)
+    → ((cells : List PlainCell) (bytes : List ℕ) (net : PlainNet) (refusal : Refusal) → IsClocked cells bytes net → IsUnclocked cells bytes refusal → Prim.⊥)
+    → ((cells : List PlainCell) (bytes stimulus : List ℕ) (refusal : Refusal) → CanSim cells bytes stimulus → IsUndriven cells bytes stimulus refusal → Prim.⊥) → RunsOnce
+runs_once net clocked driven = record { net = net; clocked = clocked; driven = driven }

@@ -1,11 +1,15 @@
 -- What the steps of a run leave.
 use Rattle.std.proofs.Common.{◌≡◌, ◌≢◌, ◌++◌, ℕ, List, [], ◌∷◌, Bool, IsTrue, Option, Some, Ok, Err, Result, OnErr, length, take, refl, sym, ap, subst, ◌∙◌, inl, inr, arith, codes, length-append}
-use Rattle.agm_shelf.specs.Shelf.{Contents, AllStay, IsFrontOrOld, TakesFront, text_of}
-use Rattle.agema_core.specs.Words.{Mask}
-use Rattle.agema_core.specs.Masks.{Masks, report_name}
-use Rattle.agema_core.specs.Answer.{IsPrintEnd, IsDelivery, LeftWhole, LeftPart, Leaves, LeavesMasked, HasLeft}
-use Rattle.agema_core.specs.declared.ended.Ended.{Ended}
-use Rattle.agema_core.specs.declared.ended.Ended.TheVariants.{Done, Usage, ReadFault, WriteFault, PrintFault, Memory, Refused}
+use Rattle.agm_shelf.specs.Shelf.{Contents, AllStay, IsFrontOrOld, TakesFront}
+use Rattle.cell_library.specs.Judged.{PlainCell}
+use Rattle.agema_texts.specs.Masks.{Masks}
+use Rattle.agema_texts.specs.Sims.{Sims}
+use Rattle.agema_answers.specs.declared.ended.Ended.{Ended}
+use Rattle.agema_core.specs.Words.{Mask, Sim}
+use Rattle.agema_core.specs.Found.{IsPrintEnd, AreCells, HoldsBoth, Holds}
+use Rattle.agema_core.specs.Answer.{report_name}
+use Rattle.agema_core.specs.Left.{IsDelivery, LeftWhole, LeftPart, Leaves, LeavesMasked, LeftByMask, LeftBySim}
+use Rattle.agema_answers.specs.declared.ended.Ended.TheVariants.{Done, Usage, ReadFault, WriteFault, PrintFault, Memory, Refused}
 
 -- the report's name is another than OUT's
 pub another_name : (out : List ℕ) → report_name out ≢ out
@@ -68,7 +72,7 @@ same_leaves out net report line told old mid new heard before now (ReadFault fil
 same_leaves out net report line told old mid new heard before now (Refused refusal) same h = h
 
 left_by : (m : Mask) (told : Bool) (old new : Contents) (heard : Bool) (before now : List ℕ) (ended : Ended) → LeavesMasked m told old new heard before now ended
-    → ((sound prints : Bool) (w0 w1 p0 p1 : ℕ) → IsDelivery m.out sound prints w0 w1 p0 p1 ended → HasLeft m told old new heard before now ended)
+    → ((sound prints : Bool) (w0 w1 p0 p1 : ℕ) → IsDelivery m.out sound prints w0 w1 p0 p1 ended → LeftByMask m told old new heard before now ended)
 left_by m told old new heard before now Done h sound prints w0 w1 p0 p1 d = h
 left_by m told old new heard before now PrintFault h sound prints w0 w1 p0 p1 d = h
 left_by m told old new heard before now (WriteFault file) h sound prints w0 w1 p0 p1 d = h
@@ -78,19 +82,31 @@ left_by m told old new heard before now (ReadFault file) h sound prints w0 w1 p0
 left_by m told old new heard before now (Refused refusal) h sound prints w0 w1 p0 p1 d = absurd d
 
 -- what a delivery leaves of the texts that mask what was read
-pub delivered : (m : Mask) (net report line text : List ℕ) (told : Bool) (old mid new : Contents) (heard : Bool) (before now : List ℕ) (sound prints : Bool) (w0 w1 p0 p1 : ℕ) (ended : Ended)
-    → AllStay old mid → (IsTrue told → text_of (old m.net) ≡ text) → Masks text m.order net report line → IsDelivery m.out sound prints w0 w1 p0 p1 ended
-    → Leaves m.out net report line told mid new heard before now ended → HasLeft m told old new heard before now ended
-delivered m net report line text told old mid new heard before now sound prints w0 w1 p0 p1 ended same read masks end leaves =
-    let P : List ℕ → Type 0 = λ t. Masks t m.order net report line in
+pub delivered : (m : Mask) (net report line text : List ℕ) (cells : List PlainCell) (told : Bool) (old mid new : Contents) (heard : Bool) (before now : List ℕ) (sound prints : Bool) (w0 w1 p0 p1 : ℕ) (ended : Ended)
+    → AllStay old mid → (IsTrue told → AreCells m.library old cells) → (IsTrue told → old m.net ≡ Some text) → Masks cells text m.order net report line → IsDelivery m.out sound prints w0 w1 p0 p1 ended
+    → Leaves m.out net report line told mid new heard before now ended → LeftByMask m told old new heard before now ended
+delivered m net report line text cells told old mid new heard before now sound prints w0 w1 p0 p1 ended same are read masks end leaves =
     let all : LeavesMasked m told old new heard before now ended = record {
       net = net;
       report = report;
       line = line;
-      masks = λ t. subst P (sym (read t)) masks;
+      masks = λ t. (cells, are t, (text, read t, masks));
       leaves = same_leaves m.out net report line told old mid new heard before now ended same leaves;
     } in
     left_by m told old new heard before now ended all sound prints w0 w1 p0 p1 end
+
+-- what the printing of a simulation leaves
+pub printed_left : (s : Sim) (text : List ℕ) (told : Bool) (old new : Contents) (heard : Bool) (before now : List ℕ) (sound : Bool) (f0 f1 : ℕ) (ended : Ended) → IsPrintEnd sound f0 f1 ended
+    → (IsTrue told → HoldsBoth s.library s.net old (λ cells bytes. Holds (old s.stimulus) (λ stimulus. Sims cells bytes stimulus text))) → AllStay old new
+    → (ended ≡ Done → IsTrue heard → now ≡ before ++ text) → (ended ≢ Done → IsTrue heard → TakesFront text before now)
+    → LeftBySim s told old new heard before now ended
+printed_left s text told old new heard before now sound f0 f1 Done end sims stay done front = record { printed = text; sims = sims; prints = done refl; held = stay }
+printed_left s text told old new heard before now sound f0 f1 PrintFault end sims stay done front = record { printed = text; sims = sims; prints = front (λ e. cc); held = stay }
+printed_left s text told old new heard before now sound f0 f1 Memory end sims stay done front = inr (record { printed = text; sims = sims; prints = front (λ e. cc); held = stay })
+printed_left s text told old new heard before now sound f0 f1 Usage end sims stay done front = absurd end
+printed_left s text told old new heard before now sound f0 f1 (ReadFault file) end sims stay done front = absurd end
+printed_left s text told old new heard before now sound f0 f1 (WriteFault file) end sims stay done front = absurd end
+printed_left s text told old new heard before now sound f0 f1 (Refused refusal) end sims stay done front = absurd end
 
 -- what follows where a result is an error
 pub on_err_map : {T E P Q : Type 0} (r : Result T E) → OnErr r P → (P → Q) → OnErr r Q

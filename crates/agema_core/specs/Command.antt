@@ -5,11 +5,21 @@ use Rattle.share_wiring.specs.declared.report.Mode.{Mode}
 use Rattle.share_wiring.specs.declared.report.Mode.TheVariants.{Naive, Aig, Bdd}
 use Rattle.share_wiring.specs.declared.report.Balance.{Balance}
 use Rattle.share_wiring.specs.declared.report.Balance.TheVariants.{Pipe, Gate}
-use Rattle.agema_core.specs.Words.{Mask}
+use Rattle.agema_core.specs.Words.{Mask, Sim, Request, mask, sim}
+use Rattle.agema_core.specs.declared.words.MaskWords.{MaskWords}
+use Rattle.agema_core.specs.declared.words.SimWords.{SimWords}
 use Rattle.agema_core.specs.declared.words.Command.{Command}
+use Rattle.agema_core.specs.declared.words.Command.TheVariants as command
 
-abbrev pub mask_of : Command → Mask
+abbrev pub mask_of : MaskWords → Mask
 mask_of c = record { library = c.library.now; net = c.net.now; order = c.order; mode = c.mode; balance = c.balance; out = c.out.now }
+
+abbrev pub sim_of : SimWords → Sim
+sim_of c = record { library = c.library.now; net = c.net.now; stimulus = c.stimulus.now }
+
+abbrev pub request_of : Command → Request
+request_of (command.Mask m) = mask (mask_of m)
+request_of (command.Sim s) = sim (sim_of s)
 
 infixl 10 ◌>>=◌
 abbrev pub ◌>>=◌ : {A B : Type 0} → Option A → (A → Option B) → Option B
@@ -31,8 +41,8 @@ abbrev pub is_filled : List ℕ → Bool
 is_filled word = not (length word == 0)
 
 -- the four words that need no look inside: the command's own, and three names that are not empty
-abbrev pub are_names : (command library net out : List ℕ) → Bool
-are_names command library net out = bytes_eq command (codes "mask") && (is_filled library && (is_filled net && is_filled out))
+abbrev pub are_names : (own command first second third : List ℕ) → Bool
+are_names own command first second third = bytes_eq command own && (is_filled first && (is_filled second && is_filled third))
 
 unfoldable pub parts_of : (library net order mode balance out : List ℕ) → Option Mask
 parts_of library net order mode balance out = do
@@ -41,8 +51,14 @@ parts_of library net order mode balance out = do
   b ← balance_of balance
   Some (record { library = library; net = net; order = d; mode = m; balance = b; out = out })
 
+abbrev pub mask_request : Option Mask → Option Request
+mask_request None = None
+mask_request (Some m) = Some (mask m)
+
 -- what the words say
-abbrev pub command_of : List (List ℕ) → Option Mask
+abbrev pub command_of : List (List ℕ) → Option Request
 command_of (command ∷ library ∷ net ∷ order ∷ mode ∷ balance ∷ out ∷ []) =
-    cond (are_names command library net out) (parts_of library net order mode balance out) None
+    cond (are_names (codes "mask") command library net out) (mask_request (parts_of library net order mode balance out)) None
+command_of (command ∷ library ∷ net ∷ stimulus ∷ []) =
+    cond (are_names (codes "sim") command library net stimulus) (Some (sim (record { library = library; net = net; stimulus = stimulus }))) None
 command_of _ = None

@@ -1,8 +1,5 @@
 pub mod Words
-pub mod Line
-pub mod Operators
-pub mod Masks
-pub mod Answer
 pub mod Command
-pub mod Explained
-pub mod Masking
+pub mod Found
+pub mod Answer
+pub mod Left

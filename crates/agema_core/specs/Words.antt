@@ -14,6 +14,12 @@ pub record Mask : Type 0 where
   pub balance : Balance
   pub out : List ℕ
 
+-- what the words of a `sim` command say
+pub record Sim : Type 0 where
+  pub library : List ℕ
+  pub net : List ℕ
+  pub stimulus : List ℕ
+
 -- an order that can be asked for
 abbrev pub IsOrder : ℕ → Type 0
 IsOrder d = (1 ≤ d) × (d ≤ 7)
@@ -25,3 +31,25 @@ pub record IsMask (words : List (List ℕ)) (m : Mask) : Type 0 where
   pub has_library : 0 < length m.library
   pub has_net : 0 < length m.net
   pub has_out : 0 < length m.out
+
+-- the words are `sim LIB NET STIM`, and none is empty
+pub record IsSim (words : List (List ℕ)) (s : Sim) : Type 0 where
+  pub words_are : words ≡ codes "sim" ∷ s.library ∷ s.net ∷ s.stimulus ∷ []
+  pub has_library : 0 < length s.library
+  pub has_net : 0 < length s.net
+  pub has_stimulus : 0 < length s.stimulus
+
+-- what a command asks for
+pub data Request : Type 0 where
+  mask : Mask → Request
+  sim : Sim → Request
+
+-- the words are a command that asks for this
+abbrev pub Asks : List (List ℕ) → Request → Type 0
+Asks words (mask m) = IsMask words m
+Asks words (sim s) = IsSim words s
+
+-- an order that is asked for is one that can be
+abbrev pub HasOrder : Request → Type 0
+HasOrder (mask m) = IsOrder m.order
+HasOrder (sim s) = Unit {0}

@@ -1,13 +1,11 @@
 //! The commands of `agema`.
 #![tactic(auto)]
 
-mod ended;
-mod line;
-mod masked;
+mod files;
+mod inputs;
+mod mask;
 mod program;
-mod size;
+mod sim;
 mod words;
 
-pub use ended::{Ended, Refusal};
-pub use masked::one_original;
 pub use program::run;

@@ -6,13 +6,28 @@ use share_wiring::{Balance, Mode};
 
 /// The words of a `mask` command.
 #[derive(Clone, Copy)]
-pub(crate) struct Command<'a> {
+pub(crate) struct MaskWords<'a> {
     pub library: &'a str,
     pub net: &'a str,
     pub order: u32,
     pub mode: Mode,
     pub balance: Balance,
     pub out: &'a str,
+}
+
+/// The words of a `sim` command.
+#[derive(Clone, Copy)]
+pub(crate) struct SimWords<'a> {
+    pub library: &'a str,
+    pub net: &'a str,
+    pub stimulus: &'a str,
+}
+
+/// A command.
+#[derive(Clone, Copy)]
+pub(crate) enum Command<'a> {
+    Mask(MaskWords<'a>),
+    Sim(SimWords<'a>),
 }
 
 // The order that a word spells, from 1 to 7.
@@ -48,14 +63,14 @@ fn read_balance(word: &str) -> Option<Balance>
     }
 }
 
-// Whether the first word is the command's, and none of the names is empty.
-fn are_names(command: &str, library: &str, net: &str, out: &str) -> bool
-    ensures { result ≡ spec.are_names command.now library.now net.now out.now }
+// Whether the first word is the command's own, and none of the names is empty.
+fn are_names(own: &str, command: &str, first: &str, second: &str, third: &str) -> bool
+    ensures { result ≡ spec.are_names own.now command.now first.now second.now third.now }
 {
-    command == "mask" && (!library.is_empty() && (!net.is_empty() && !out.is_empty()))
+    command == own && (!first.is_empty() && (!second.is_empty() && !third.is_empty()))
 }
 
-// The command of the words behind the first one.
+// The `mask` command of the words behind the first one.
 #[tactic(auto, unfolding(crate::specs::Command::parts_of))]
 fn read_parts<'a>(
     library: &'a str,
@@ -64,13 +79,13 @@ fn read_parts<'a>(
     mode: &str,
     balance: &str,
     out: &'a str,
-) -> Option<Command<'a>>
+) -> Option<MaskWords<'a>>
     ensures { option_map spec.mask_of result ≡ spec.parts_of library.now net.now order.now mode.now balance.now out.now }
 {
     let order = read_order(order)?;
     let mode = read_mode(mode)?;
     let balance = read_balance(balance)?;
-    Some(Command {
+    Some(MaskWords {
         library,
         net,
         order,
@@ -80,19 +95,36 @@ fn read_parts<'a>(
     })
 }
 
+// The same, as a command.
+fn read_mask<'a>(
+    library: &'a str,
+    net: &'a str,
+    order: &str,
+    mode: &str,
+    balance: &str,
+    out: &'a str,
+) -> Option<Command<'a>>
+    ensures { option_map spec.request_of result ≡ spec.mask_request (spec.parts_of library.now net.now order.now mode.now balance.now out.now) }
+{
+    match read_parts(library, net, order, mode, balance, out) {
+        Some(words) => Some(Command::Mask(words)),
+        None => None,
+    }
+}
+
 /// The command that the words are, None where they are none.
 pub(crate) fn read_command(words: &[String]) -> Option<Command<'_>>
-    ensures { option_map spec.mask_of result ≡ spec.command_of (map string_bytes words.now) }
+    ensures { option_map spec.request_of result ≡ spec.command_of (map string_bytes words.now) }
 {
     match words {
         [command, library, net, order, mode, balance, out] => {
             let library = library.as_str();
             let net = net.as_str();
             let out = out.as_str();
-            if !are_names(command.as_str(), library, net, out) {
+            if !are_names("mask", command.as_str(), library, net, out) {
                 return None;
             }
-            read_parts(
+            read_mask(
                 library,
                 net,
                 order.as_str(),
@@ -100,6 +132,19 @@ pub(crate) fn read_command(words: &[String]) -> Option<Command<'_>>
                 balance.as_str(),
                 out,
             )
+        }
+        [command, library, net, stimulus] => {
+            let library = library.as_str();
+            let net = net.as_str();
+            let stimulus = stimulus.as_str();
+            if !are_names("sim", command.as_str(), library, net, stimulus) {
+                return None;
+            }
+            Some(Command::Sim(SimWords {
+                library,
+                net,
+                stimulus,
+            }))
         }
         _ => None,
     }

@@ -3,7 +3,8 @@
 ghost use Rattle.std.specs.Prelude.{◌≡◌, None};
 ghost use Rattle.agm_shelf.specs.MemoryShelf.{open_name};
 
-use agema_core::{Ended, run};
+use agema_answers::Ended;
+use agema_core::run;
 use agm_shelf::{MemoryShelf, MemorySink};
 use std::alloc::{AllocError, Global};
 use std::str::from_utf8;
@@ -126,6 +127,22 @@ pub(crate) fn run_with(
     hold(&mut shelf, "o.v", "old net")?;
     hold(&mut shelf, "o.v.json", "old report")?;
     fail(&mut shelf, &mut sink, faults)?;
+    left_by(alloc, line, ("o.v", "o.v.json"), &mut shelf, &mut sink)
+}
+
+/// The outcome of a command over a shelf that holds the library as `l.lib`, the netlist as `n.v` and a stimulus as `s.json`.
+pub(crate) fn run_sim(
+    alloc: Global,
+    library: &str,
+    netlist: &str,
+    stimulus: &str,
+    line: &str,
+) -> Result<Outcome, Fail> {
+    let mut shelf = MemoryShelf::new(alloc);
+    let mut sink = MemorySink::new(alloc);
+    hold(&mut shelf, "l.lib", library)?;
+    hold(&mut shelf, "n.v", netlist)?;
+    hold(&mut shelf, "s.json", stimulus)?;
     left_by(alloc, line, ("o.v", "o.v.json"), &mut shelf, &mut sink)
 }
 

@@ -1,4 +1,4 @@
-//! Whatever is of the first form is masked, at every order, over a shelf and a sink that never fail.
+//! Simple netlists are masked, at every order, over a shelf and a sink that never fail.
 
 use crate::command::{NO_FAULTS, left_nothing, run_over};
 use crate::product::PRODUCT;
@@ -112,7 +112,7 @@ fn mask_all(alloc: Global, netlists: &[(&str, &str)]) -> Result<(), Fail> {
 }
 
 #[test]
-fn masks_the_first_form(rt: HostRuntime) -> Result<(), Fail> {
+fn masks_simple_netlists(rt: HostRuntime) -> Result<(), Fail> {
     mask_all(rt.alloc(), &NETLISTS)
 }
 

@@ -1,13 +1,15 @@
 //! The line and the status of each answer.
 
-use agema_core::{Ended, Refusal};
-use agm_bits::Name;
-use cell_library::CellCause;
+use agema_answers::{Ended, Refusal};
+use agm_bits::{List, Name};
+use annotations::AnnotationFault;
+use cell_library::{Bar, CellCause};
 use std::alloc::Global;
 use std::test::Fail;
+use stimulus::StimulusCause;
 
-/// The status of each answer, and its line where its file has a blank, a line feed and a byte that is no text in its name.
-const LINES: [(u8, &[u8]); 11] = [
+/// The status of each answer, and its line where its file or name has a blank, a line feed and a byte that is no text.
+const LINES: [(u8, &[u8]); 23] = [
     (0, b"status 0 Done\n"),
     (2, b"status 2 Usage\n"),
     (3, b"status 3 ReadFault file=a b\n\xff\n"),
@@ -16,29 +18,87 @@ const LINES: [(u8, &[u8]); 11] = [
     (6, b"status 6 PrintFault\n"),
     (10, b"status 10 TooLong file=a b\n\xff\n"),
     (11, b"status 11 LibrarySyntax at=13\n"),
+    (12, b"status 12 NetSyntax at=21\n"),
     (13, b"status 13 Cell name=a b\n\xff cause=Reserved\n"),
+    (14, b"status 14 UnknownCell instance=a b\n\xff cell=b\n"),
+    (15, b"status 15 UnknownPin instance=a b\n\xff pin=b\n"),
+    (16, b"status 16 UnknownWire name=a b\n\xff\n"),
+    (17, b"status 17 Driven wire=a b\n\xff drivers=0\n"),
+    (18, b"status 18 Width left=1 right=2\n"),
+    (19, b"status 19 Top candidates=2\n"),
+    (20, b"status 20 Loop wires=a b\n\xff,b\n"),
+    (21, b"status 21 BadAnnotation fault=Value port=1\n"),
     (23, b"status 23 TooLarge operators=1025\n"),
+    (25, b"status 25 BadStimulus cause=Inputs stream=1 step=2\n"),
+    (
+        29,
+        b"status 29 BarredCell instance=a b\n\xff cell=b cause=Latch\n",
+    ),
+    (30, b"status 30 Clash name=a b\n\xff\n"),
     (31, b"status 31 NotBuilt\n"),
 ];
 
+// The refusal of a status.
+fn refusal_of(alloc: Global, status: u8, name: Name, other: Name) -> Result<Refusal, Fail> {
+    Ok(match status {
+        10 => Refusal::TooLong { file: name },
+        11 => Refusal::LibrarySyntax { at: 13 },
+        12 => Refusal::NetSyntax { at: 21 },
+        13 => Refusal::Cell {
+            name,
+            cause: CellCause::Reserved,
+        },
+        14 => Refusal::UnknownCell {
+            instance: name,
+            cell: other,
+        },
+        15 => Refusal::UnknownPin {
+            instance: name,
+            pin: other,
+        },
+        16 => Refusal::UnknownWire { name },
+        17 => Refusal::Driven {
+            wire: name,
+            drivers: 0,
+        },
+        18 => Refusal::Width { left: 1, right: 2 },
+        19 => Refusal::Top { candidates: 2 },
+        20 => {
+            let mut wires = List::new(alloc);
+            wires.push(name)?;
+            wires.push(other)?;
+            Refusal::Loop { wires }
+        }
+        21 => Refusal::BadAnnotation {
+            fault: AnnotationFault::Value { port: 1 },
+        },
+        23 => Refusal::TooLarge { operators: 1025 },
+        25 => Refusal::BadStimulus {
+            cause: StimulusCause::Inputs,
+            stream: 1,
+            step: 2,
+        },
+        29 => Refusal::BarredCell {
+            instance: name,
+            cell: other,
+            cause: Bar::Latch,
+        },
+        30 => Refusal::Clash { name },
+        _ => Refusal::NotBuilt,
+    })
+}
+
 // The answer of a status.
-fn answer_of(status: u8, file: Name) -> Ended {
-    match status {
+fn answer_of(alloc: Global, status: u8, name: Name, other: Name) -> Result<Ended, Fail> {
+    Ok(match status {
         0 => Ended::Done,
         2 => Ended::Usage,
-        3 => Ended::ReadFault { file },
-        4 => Ended::WriteFault { file },
+        3 => Ended::ReadFault { file: name },
+        4 => Ended::WriteFault { file: name },
         5 => Ended::Memory,
         6 => Ended::PrintFault,
-        10 => Ended::Refused(Refusal::TooLong { file }),
-        11 => Ended::Refused(Refusal::LibrarySyntax { at: 13 }),
-        13 => Ended::Refused(Refusal::Cell {
-            name: file,
-            cause: CellCause::Reserved,
-        }),
-        23 => Ended::Refused(Refusal::TooLarge { operators: 1025 }),
-        _ => Ended::Refused(Refusal::NotBuilt),
-    }
+        _ => Ended::Refused(refusal_of(alloc, status, name, other)?),
+    })
 }
 
 // Whether an answer has this status and this line.
@@ -48,10 +108,16 @@ fn tells(alloc: Global, ended: &Ended, status: u8, line: &[u8]) -> Result<bool, 
 }
 
 // Fails at the first answer that is not told so.
-fn explain_all(alloc: Global, cases: &[(u8, &[u8])], name: &[u8]) -> Result<(), Fail> {
+fn explain_all(
+    alloc: Global,
+    cases: &[(u8, &[u8])],
+    name: &[u8],
+    other: &[u8],
+) -> Result<(), Fail> {
     for (status, line) in cases {
-        let file = Name::from_slice(alloc, name)?;
-        let ended = answer_of(*status, file);
+        let first = Name::from_slice(alloc, name)?;
+        let second = Name::from_slice(alloc, other)?;
+        let ended = answer_of(alloc, *status, first, second)?;
         if !tells(alloc, &ended, *status, line)? {
             return Err(Fail::from("an answer is not told so"));
         }
@@ -61,5 +127,5 @@ fn explain_all(alloc: Global, cases: &[(u8, &[u8])], name: &[u8]) -> Result<(), 
 
 #[test]
 fn explains_each_answer(rt: HostRuntime) -> Result<(), Fail> {
-    explain_all(rt.alloc(), &LINES, b"a b\n\xff")
+    explain_all(rt.alloc(), &LINES, b"a b\n\xff", b"b")
 }

@@ -14,9 +14,13 @@ mod libraries;
 #[cfg(test)]
 mod limits;
 #[cfg(test)]
+mod netlists;
+#[cfg(test)]
 mod product;
 #[cfg(test)]
 mod refusals;
+#[cfg(test)]
+mod sims;
 #[cfg(test)]
 mod two_cells;
 #[cfg(test)]

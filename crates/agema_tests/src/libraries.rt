@@ -74,6 +74,6 @@ fn reads_libraries(rt: HostRuntime) -> Result<(), Fail> {
     refuse_all(alloc, &REFUSED)?;
     tell_all(alloc, &FAULTS)?;
     assert!(rt; ends(alloc, PRODUCT, COMMAND, "status 0 Done\n")?);
-    assert!(rt; ends(alloc, "no netlist", COMMAND, "status 31 NotBuilt\n")?);
+    assert!(rt; ends(alloc, "no netlist", COMMAND, "status 12 NetSyntax at=0\n")?);
     Ok(())
 }

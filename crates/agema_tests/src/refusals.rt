@@ -6,8 +6,13 @@ use std::alloc::Global;
 use std::test::Fail;
 
 /// Lines whose words are no command, ask for what isn't built, or name a file that isn't there.
-const LINES: [(&str, &str); 13] = [
+const LINES: [(&str, &str); 18] = [
     ("", "status 2 Usage\n"),
+    ("sim - n.v", "status 2 Usage\n"),
+    ("sim - n.v s.json more", "status 2 Usage\n"),
+    ("sims - n.v s.json", "status 2 Usage\n"),
+    ("sim no.lib n.v s.json", "status 3 ReadFault file=no.lib\n"),
+    ("sim - n.v s.json", "status 3 ReadFault file=n.v\n"),
     ("mask", "status 2 Usage\n"),
     ("unmask - n.v 2 naive pipe o.v", "status 2 Usage\n"),
     ("mask - n.v 2 naive pipe o.v more", "status 2 Usage\n"),
@@ -23,16 +28,6 @@ const LINES: [(&str, &str); 13] = [
     ),
     ("mask - n.v 2 aig pipe o.v", "status 31 NotBuilt\n"),
     ("mask - n.v 2 naive gate o.v", "status 31 NotBuilt\n"),
-];
-
-/// Texts that are not of the first form.
-const TEXTS: [&str; 6] = [
-    "",
-    "order 2",
-    "module m(a, y); input a; output y; AGM_NOT u (.A(a), .Y(y)); endmodule",
-    "module m(a, y); (* AGEMA = \"secure\" *) input a; output y; assign y = a; endmodule",
-    "module m(a, y); (* AGEMA = \"secure\" *) input a; output y; wire x; AGM_NOT u (.A(a), .Y(x)); AGM_AND2 v (.A(a), .B(x), .Y(y)); endmodule",
-    "module m(a, y, z); (* AGEMA = \"secure\" *) input a; output y; output z; AGM_AND2 u (.A(a), .B(a), .Y(y)); AGM_AND2 v (.A(a), .B(a), .Y(z)); endmodule",
 ];
 
 /// Each call fails, so that what reads, writes or prints doesn't end as a refusal of words.
@@ -52,17 +47,6 @@ fn refuse_lines(alloc: Global, lines: &[(&str, &str)]) -> Result<(), Fail> {
     Ok(())
 }
 
-// Fails at the first text that isn't refused.
-fn refuse_texts(alloc: Global, texts: &[&str]) -> Result<(), Fail> {
-    for text in texts {
-        let found = run_over(alloc, text, "mask - n.v 2 naive pipe o.v", NO_FAULTS)?;
-        if !left_nothing(&found, "status 31 NotBuilt\n") {
-            return Err(Fail::from(*text));
-        }
-    }
-    Ok(())
-}
-
 // Whether a file that isn't there is told.
 fn tells_a_missing_file(alloc: Global) -> Result<bool, Fail> {
     let found = run_over(alloc, TWO_CELLS, "mask - no.v 2 naive pipe o.v", NO_FAULTS)?;
@@ -70,9 +54,8 @@ fn tells_a_missing_file(alloc: Global) -> Result<bool, Fail> {
 }
 
 #[test]
-fn refuses_words_and_texts(rt: HostRuntime) -> Result<(), Fail> {
+fn refuses_words(rt: HostRuntime) -> Result<(), Fail> {
     refuse_lines(rt.alloc(), &LINES)?;
-    refuse_texts(rt.alloc(), &TEXTS)?;
     assert!(rt; tells_a_missing_file(rt.alloc())?);
     Ok(())
 }

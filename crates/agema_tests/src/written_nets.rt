@@ -1,173 +1,9 @@
-//! Written netlists compute: OUT is read back and run at every order, for all values of the inputs and two sharings of each.
+//! Written netlists compute: OUT is run by `sim` at every order, for all values of the inputs and two sharings of each.
 
-use crate::command::{NO_FAULTS, run_over};
+use crate::command::{NO_FAULTS, run_over, run_sim};
 use crate::product::{PRODUCT, SQUARE};
-use agm_bits::Name;
-use name_table::Names;
-use small_text::{Bit, Item, Source, read_small};
 use std::alloc::{AllocError, Global};
 use std::test::Fail;
-
-/// What sets a wire. Wires are numbered in the order in which items name them.
-#[derive(Clone, Copy)]
-enum Gate {
-    Constant(bool),
-    Copy(usize),
-    Not(usize),
-    Xor(usize, usize),
-    And(usize, usize),
-    Register(usize),
-}
-
-/// A netlist to be run: the names of its wires, and what sets each.
-#[derive(Drop)]
-struct Runnable {
-    names: Names,
-    gates: Vec<(usize, Gate)>,
-}
-
-// The number of a bit's wire.
-fn number(alloc: Global, names: &mut Names, bit: &Bit) -> Result<usize, Fail> {
-    let mut name = Name::from_slice(alloc, bit.name.as_slice())?;
-    if let Some(index) = bit.index {
-        let select = format!(in alloc; "[{index}]")?;
-        name.extend(select.as_bytes())?;
-    }
-    Ok(names.add(name.as_slice())?.number)
-}
-
-fn gate_of(alloc: Global, names: &mut Names, item: &Item) -> Result<(usize, Gate), Fail> {
-    Ok(match item {
-        Item::Assign { target, source } => {
-            let gate = match source {
-                Source::Bit(bit) => Gate::Copy(number(alloc, names, bit)?),
-                Source::Constant(bit) => Gate::Constant(*bit),
-            };
-            (number(alloc, names, target)?, gate)
-        }
-        Item::Not { name: _, a, y } => {
-            let gate = Gate::Not(number(alloc, names, a)?);
-            (number(alloc, names, y)?, gate)
-        }
-        Item::Xor { name: _, a, b, y } => {
-            let gate = Gate::Xor(number(alloc, names, a)?, number(alloc, names, b)?);
-            (number(alloc, names, y)?, gate)
-        }
-        Item::And { name: _, a, b, y } => {
-            let gate = Gate::And(number(alloc, names, a)?, number(alloc, names, b)?);
-            (number(alloc, names, y)?, gate)
-        }
-        Item::Register {
-            name: _,
-            c: _,
-            d,
-            q,
-        } => {
-            let gate = Gate::Register(number(alloc, names, d)?);
-            (number(alloc, names, q)?, gate)
-        }
-    })
-}
-
-// The netlist of a written text.
-fn read_back(alloc: Global, text: &str) -> Result<Runnable, Fail> {
-    let Some(small) = read_small(alloc, text.as_bytes())? else {
-        return Err(Fail::from("OUT is no small text"));
-    };
-    let mut names = Names::new(alloc);
-    let mut gates = Vec::new(alloc);
-    for item in small.items.as_slice() {
-        let gate = gate_of(alloc, &mut names, item)?;
-        gates.push(gate)?;
-    }
-    Ok(Runnable { names, gates })
-}
-
-fn bit(bits: &[bool], wire: usize) -> bool {
-    match bits.get(wire) {
-        Some(bit) => *bit,
-        None => false,
-    }
-}
-
-// What a gate gives, for the bits of the cycle before and of this one.
-fn value(gate: Gate, before: &[bool], now: &[bool]) -> bool {
-    match gate {
-        Gate::Constant(value) => value,
-        Gate::Copy(a) => bit(now, a),
-        Gate::Not(a) => !bit(now, a),
-        Gate::Xor(a, b) => bit(now, a) != bit(now, b),
-        Gate::And(a, b) => bit(now, a) && bit(now, b),
-        Gate::Register(d) => bit(before, d),
-    }
-}
-
-// Sets each wire once, and tells whether none was set to another value than it had.
-fn settle(gates: &[(usize, Gate)], before: &[bool], now: &mut [bool]) -> bool {
-    let mut is_settled = true;
-    for (wire, gate) in gates {
-        let set = value(*gate, before, now);
-        if *wire < now.len() && now[*wire] != set {
-            now[*wire] = set;
-            is_settled = false;
-        }
-    }
-    is_settled
-}
-
-// The bits of a cycle behind another, where some wires are given. Equations may stand in any order.
-fn next(
-    alloc: Global,
-    net: &Runnable,
-    before: &[bool],
-    given: &[(Name, bool)],
-) -> Result<Vec<bool>, AllocError> {
-    let mut now = vec![in alloc; false; net.names.len()]?;
-    for (name, value) in given {
-        if let Some(wire) = net.names.find(name.as_slice()) {
-            if wire < now.len() {
-                now[wire] = *value;
-            }
-        }
-    }
-    for _ in 0..64u32 {
-        if settle(net.gates.as_slice(), before, now.as_mut_slice()) {
-            break;
-        }
-    }
-    Ok(now)
-}
-
-fn push_given(
-    alloc: Global,
-    given: &mut Vec<(Name, bool)>,
-    name: &str,
-    value: bool,
-) -> Result<(), Fail> {
-    let name = Name::from_slice(alloc, name.as_bytes())?;
-    given.push((name, value))?;
-    Ok(())
-}
-
-// Gives the shares of a secret bit. Of the first sharing all shares but the last are 0, of the second they alternate.
-fn share(
-    alloc: Global,
-    given: &mut Vec<(Name, bool)>,
-    order: u32,
-    port: &str,
-    secret: bool,
-    is_second: bool,
-) -> Result<(), Fail> {
-    let mut last = secret;
-    for i in 0..order {
-        let value = is_second && i % 2 == 0;
-        let name = format!(in alloc; "agm_s{i}_{port}")?;
-        push_given(alloc, given, name.as_str(), value)?;
-        last = last != value;
-    }
-    let name = format!(in alloc; "agm_s{order}_{port}")?;
-    push_given(alloc, given, name.as_str(), last)
-}
 
 /// A netlist with the names of its inputs, and its output for each value of theirs.
 struct Example {
@@ -201,76 +37,152 @@ fn step(example: &Example, k: u32) -> (&'static str, bool) {
     }
 }
 
-// What a cycle's wires are given: the load signal, random bits of which every third is 1, and the shares of a step.
-fn given_in(
+fn digit(bit: bool) -> &'static str {
+    if bit { "1" } else { "0" }
+}
+
+// Adds the shares of a secret bit. Of the first sharing all shares but the last are 0, of the second they alternate.
+fn push_shares(
     alloc: Global,
+    text: &mut String,
+    order: u32,
+    port: &str,
+    secret: bool,
+    is_second: bool,
+) -> Result<(), AllocError> {
+    let mut last = secret;
+    for i in 0..order {
+        let value = is_second && i % 2 == 0;
+        let bit = digit(value);
+        let member = format!(in alloc; ",\"agm_s{i}_{port}\":\"{bit}\"")?;
+        text.push_str(member.as_str())?;
+        last = last != value;
+    }
+    let bit = digit(last);
+    let member = format!(in alloc; ",\"agm_s{order}_{port}\":\"{bit}\"")?;
+    text.push_str(member.as_str())
+}
+
+// Random bits, of which every third is 1.
+fn random_bits(alloc: Global, order: u32, cycle: u32) -> Result<String, AllocError> {
+    let mut text = String::new(alloc);
+    for k in 0..order.wrapping_mul(order.wrapping_add(1)) / 2 {
+        text.push_str(digit(cycle.wrapping_add(k) % 3 == 0))?;
+    }
+    Ok(text)
+}
+
+// Adds a cycle: the load signal, random bits, and the shares of a step.
+fn push_cycle(
+    alloc: Global,
+    text: &mut String,
     example: &Example,
     order: u32,
     cycle: u32,
     is_second: bool,
-) -> Result<Vec<(Name, bool)>, Fail> {
-    let mut given = Vec::new(alloc);
-    push_given(alloc, &mut given, "agm_load", cycle < 3)?;
-    for k in 0..28u32 {
-        let name = format!(in alloc; "agm_r[{k}]")?;
-        push_given(
-            alloc,
-            &mut given,
-            name.as_str(),
-            cycle.wrapping_add(k) % 3 == 0,
-        )?;
-    }
+) -> Result<(), AllocError> {
+    let load = digit(cycle < 3);
+    let random = random_bits(alloc, order, cycle)?;
+    let front = format!(in alloc; "{{\"agm_load\":\"{load}\",\"agm_r\":\"{random}\"")?;
+    text.push_str(front.as_str())?;
     let (bits, _) = step(example, cycle);
     for (port, value) in example.inputs.iter().zip(bits.as_bytes()) {
-        share(alloc, &mut given, order, port, *value == b'1', is_second)?;
+        push_shares(alloc, text, order, port, *value == b'1', is_second)?;
     }
-    Ok(given)
+    text.push_str("}")
 }
 
-// What the shares of y recombine to.
-fn output(alloc: Global, net: &Runnable, bits: &[bool], order: u32) -> Result<bool, Fail> {
-    let mut secret = false;
-    for i in 0..=order {
-        let name = format!(in alloc; "agm_s{i}_y")?;
-        match net.names.find(name.as_bytes()) {
-            Some(wire) => secret = secret != bit(bits, wire),
-            None => return Err(Fail::from("a share is missing")),
-        }
-    }
-    Ok(secret)
-}
-
-// Whether each step's output is right two cycles after its inputs, in a run that begins with all registers at 1. Cycle 0 loads, and each
-// later cycle has the step of some stream.
-fn is_right(
+// A stimulus of eight cycles, in which all registers begin with 1.
+fn stimulus_of(
     alloc: Global,
     example: &Example,
-    net: &Runnable,
+    net: &str,
+    order: u32,
+    is_second: bool,
+) -> Result<String, AllocError> {
+    let mut text = String::from_str(alloc, "{\"streams\":[{\"initial\":\"")?;
+    for _ in net.matches("AGM_DFF ") {
+        text.push_str("1")?;
+    }
+    text.push_str("\",\"steps\":[")?;
+    for cycle in 0..8u32 {
+        if cycle > 0 {
+            text.push_str(",")?;
+        }
+        push_cycle(alloc, &mut text, example, order, cycle, is_second)?;
+    }
+    text.push_str("]}]}")?;
+    Ok(text)
+}
+
+// What the shares in a printed line recombine to.
+fn recombined(line: &str) -> bool {
+    line.matches("=1").count() % 2 == 1
+}
+
+// Whether each step's output is right two cycles after its inputs. Cycle 0 loads, and each later cycle has the step of some stream.
+fn is_right(example: &Example, printed: &str) -> bool {
+    let mut cycle = 0u32;
+    let mut right = printed.lines().count() == 8;
+    for line in printed.lines() {
+        let (_, wanted) = step(example, cycle.wrapping_sub(2));
+        if cycle > 2 && recombined(line) != wanted {
+            right = false;
+        }
+        cycle = cycle.wrapping_add(1);
+    }
+    right
+}
+
+// Whether the netlist that was written for an example at an order is right for one of the sharings.
+fn runs_right(
+    alloc: Global,
+    example: &Example,
+    net: &str,
     order: u32,
     is_second: bool,
 ) -> Result<bool, Fail> {
-    let mut bits = vec![in alloc; true; net.names.len()]?;
-    for cycle in 0..8u32 {
-        let given = given_in(alloc, example, order, cycle, is_second)?;
-        bits = next(alloc, net, bits.as_slice(), given.as_slice())?;
-        if cycle > 2 {
-            let (_, wanted) = step(example, cycle - 2);
-            if output(alloc, net, bits.as_slice(), order)? != wanted {
-                return Ok(false);
-            }
-        }
-    }
-    Ok(true)
+    let stimulus = stimulus_of(alloc, example, net, order, is_second)?;
+    let found = run_sim(alloc, "", net, stimulus.as_str(), "sim - n.v s.json")?;
+    Ok(is_right(example, found.line.as_str()))
 }
 
 // Whether the netlist that is written for an example at an order is right.
 fn computes(alloc: Global, example: &Example, order: u32) -> Result<bool, Fail> {
     let line = format!(in alloc; "mask - n.v {order} naive pipe o.v")?;
     let found = run_over(alloc, example.text, line.as_str(), NO_FAULTS)?;
-    let net = read_back(alloc, found.net.as_str())?;
+    let net = found.net.as_str();
     Ok(
-        is_right(alloc, example, &net, order, false)?
-            && is_right(alloc, example, &net, order, true)?,
+        runs_right(alloc, example, net, order, false)?
+            && runs_right(alloc, example, net, order, true)?,
+    )
+}
+
+/// One product with given shares: in cycle 0 a is (1, 0), b is (0, 1) and the random bit is 1. By hand, the shares of the product are
+/// 0 and 0 ^ 1 two cycles later.
+const SHARED_STEPS: &str =
+    "\",\"steps\":[{\"agm_load\":\"1\",\"agm_r\":\"1\",\"agm_s0_a\":\"1\",\"agm_s1_a\":\"0\",\"agm_s0_b\":\"0\",\"agm_s1_b\":\"1\"},{\"agm_load\":\"0\",\"agm_r\":\"0\",\"agm_s0_a\":\"0\",\"agm_s1_a\":\"0\",\"agm_s0_b\":\"0\",\"agm_s1_b\":\"0\"},{\"agm_load\":\"0\",\"agm_r\":\"0\",\"agm_s0_a\":\"0\",\"agm_s1_a\":\"0\",\"agm_s0_b\":\"0\",\"agm_s1_b\":\"0\"}]}]}";
+
+// Whether the shares of the product are those.
+fn shares_by_hand(alloc: Global) -> Result<bool, Fail> {
+    let masked = run_over(alloc, PRODUCT, "mask - n.v 1 naive pipe o.v", NO_FAULTS)?;
+    let mut stimulus = String::from_str(alloc, "{\"streams\":[{\"initial\":\"")?;
+    for _ in masked.net.as_str().matches("AGM_DFF ") {
+        stimulus.push_str("0")?;
+    }
+    stimulus.push_str(SHARED_STEPS)?;
+    let found = run_sim(
+        alloc,
+        "",
+        masked.net.as_str(),
+        stimulus.as_str(),
+        "sim - n.v s.json",
+    )?;
+    Ok(
+        found
+            .line
+            .as_str()
+            .ends_with("stream 0 step 2 agm_s0_y=0 agm_s1_y=1\n"),
     )
 }
 
@@ -285,5 +197,6 @@ fn written_netlists_compute(rt: HostRuntime) -> Result<(), Fail> {
             );
         }
     }
+    assert!(rt; shares_by_hand(rt.alloc())?);
     Ok(())
 }

@@ -1,0 +1,98 @@
+-- How a reason for a refusal becomes another.
+use Rattle.std.proofs.Common.{◌≡◌, ◌≤◌, ◌⊎◌, ℕ, List, inl, inr, Result, Ok, Err, OnOk, IfOk, IfErr, subst, string_bytes}
+use Rattle.agm_net.specs.Plain.{PlainNet}
+use Rattle.agm_net.specs.declared.mark.Mark.{Mark}
+use Rattle.cell_library.specs.Judged.{PlainCell}
+use Rattle.verilog_reader.specs.Plain.{PlainModule, PlainDesign}
+use Rattle.annotations.specs.Rules.{Rule, Broken, IsFirstFault}
+use Rattle.annotations.specs.declared.fault.AnnotationFault.{AnnotationFault}
+use Rattle.annotations.specs.declared.fault.AnnotationFault.TheVariants as annotation
+use Rattle.top_module.specs.Top.{IsTop}
+use Rattle.bound_items.specs.declared.fault.BindFault.{BindFault}
+use Rattle.bound_items.specs.declared.fault.BindFault.TheVariants as fault
+use Rattle.agema_answers.specs.Faults.{bind_ended}
+use Rattle.agema_answers.specs.declared.ended.Ended.{Ended}
+use Rattle.agema_answers.specs.declared.ended.Ended.TheVariants.{Done, Usage, ReadFault, WriteFault, PrintFault, Memory, Refused}
+use Rattle.agema_answers.specs.declared.refusal.Refusal.{Refusal}
+use Rattle.agema_answers.specs.declared.refusal.Refusal.TheVariants as refusal
+use Rattle.agema_answers.specs.declared.refusal.Refusal.TheVariants.{NetSyntax, Loop, BadAnnotation, TooLarge, NotBuilt}
+use Rattle.agema_texts.specs.Original.{IsRead, IsOriginal, EndsBy}
+use Rattle.agema_texts.specs.Marked.{IsMarked, IsUnmarked, IsTooBig, annotation_ended}
+use Rattle.agema_texts.specs.Masks.{IsUnmasked, IsServed, Masks, MasksNet, size_of, size_limit}
+use Rattle.agema_texts.specs.declared.masked.Texts.{Texts}
+
+ends_by : (P Q : Refusal → Type 0) → ((r : Refusal) → P r → Q r) → (ended : Ended) → EndsBy P ended → EndsBy Q ended
+ends_by P Q f (Refused r) h = f r h
+ends_by P Q f Memory h = tt
+ends_by P Q f Done h = absurd h
+ends_by P Q f Usage h = absurd h
+ends_by P Q f (ReadFault file) h = absurd h
+ends_by P Q f (WriteFault file) h = absurd h
+ends_by P Q f PrintFault h = absurd h
+
+-- a call that ends for one reason ends for another
+pub err_by : {X : Type 0} (P Q : Refusal → Type 0) → ((r : Refusal) → P r → Q r) → (r : Result X Ended) → IfErr r (EndsBy P) → IfErr r (EndsBy Q)
+err_by P Q f (Ok x) h = h
+err_by P Q f (Err e) h = ends_by P Q f e h
+
+-- the refusals that tell a fault of binding
+abbrev pub IsOfBinding : Refusal → Type 0
+IsOfBinding (refusal.UnknownCell i c) = Unit {0}
+IsOfBinding (refusal.UnknownPin i p) = Unit {0}
+IsOfBinding (refusal.UnknownWire n) = Unit {0}
+IsOfBinding (refusal.Driven w d) = Unit {0}
+IsOfBinding (refusal.Width l r) = Unit {0}
+IsOfBinding (refusal.Top n) = Unit {0}
+IsOfBinding (refusal.Recursive m) = Unit {0}
+IsOfBinding (refusal.BarredCell i c b) = Unit {0}
+IsOfBinding (refusal.Clash n) = Unit {0}
+IsOfBinding _ = Prim.⊥
+
+pub of_binding : (f : BindFault) (r : Refusal) → bind_ended f ≡ Refused r → IsOfBinding r
+of_binding (fault.UnknownCell i c) r h = let same : refusal.UnknownCell i c ≡ r = cc in subst IsOfBinding same tt
+of_binding (fault.UnknownPin i p) r h = let same : refusal.UnknownPin i p ≡ r = cc in subst IsOfBinding same tt
+of_binding (fault.UnknownWire n) r h = let same : refusal.UnknownWire n ≡ r = cc in subst IsOfBinding same tt
+of_binding (fault.Driven w d) r h = let same : refusal.Driven w d ≡ r = cc in subst IsOfBinding same tt
+of_binding (fault.Width x y) r h = let same : refusal.Width x y ≡ r = cc in subst IsOfBinding same tt
+of_binding (fault.Top n) r h = let same : refusal.Top n ≡ r = cc in subst IsOfBinding same tt
+of_binding (fault.Recursive m) r h = let same : refusal.Recursive m ≡ r = cc in subst IsOfBinding same tt
+of_binding (fault.BarredCell i c b) r h = let same : refusal.BarredCell i c b ≡ r = cc in subst IsOfBinding same tt
+of_binding (fault.Clash n) r h = let same : refusal.Clash n ≡ r = cc in subst IsOfBinding same tt
+of_binding fault.Memory r h = cc
+
+-- what is too large, or not built
+pub too_big_unmasked : (cells : List PlainCell) (bytes : List ℕ) (order : ℕ) (net : PlainNet) (marks : List Mark) → IsOriginal cells bytes net marks → (r : Refusal) → IsTooBig net marks order r → IsUnmasked cells bytes order r
+too_big_unmasked cells bytes order net marks is (TooLarge n) h = (net, marks, is, h.0, h.1)
+too_big_unmasked cells bytes order net marks is NotBuilt h = (net, marks, is, h.0, h.1)
+too_big_unmasked cells bytes order net marks is _ h = absurd h
+
+-- an original, by what its steps tell
+pub original_of : (cells : List PlainCell) (bytes : List ℕ) (design : PlainDesign) (net : PlainNet) (marks : List Mark) → IsRead cells bytes design net → IsMarked design net marks → IsOriginal cells bytes net marks
+original_of cells bytes design net marks read (top, is_top, none, are) = record { design = design; top = top; read = read; is_top = is_top; none_broken = none; marks_are = are }
+
+-- a rule that is broken ends a run with its fault, or memory is wanted
+pub breaks_ended : (rules : PlainNet → List Rule) (design : PlainDesign) (net : PlainNet) (top : PlainModule) → IsTop design top → (f : AnnotationFault)
+    → (f ≡ annotation.Memory) ⊎ IsFirstFault (Broken top net) (rules net) f → EndsBy (IsUnmarked rules design net) (annotation_ended f)
+breaks_ended rules design net top is annotation.Memory (inl e) = tt
+breaks_ended rules design net top is annotation.Memory (inr first) = tt
+breaks_ended rules design net top is (annotation.Reserved p) (inl e) = cc
+breaks_ended rules design net top is (annotation.Reserved p) (inr first) = (top, is, first)
+breaks_ended rules design net top is (annotation.Value p) (inl e) = cc
+breaks_ended rules design net top is (annotation.Value p) (inr first) = (top, is, first)
+breaks_ended rules design net top is (annotation.Twice p) (inl e) = cc
+breaks_ended rules design net top is (annotation.Twice p) (inr first) = (top, is, first)
+breaks_ended rules design net top is (annotation.SecondClock p) (inl e) = cc
+breaks_ended rules design net top is (annotation.SecondClock p) (inr first) = (top, is, first)
+breaks_ended rules design net top is annotation.NoSecure (inl e) = cc
+breaks_ended rules design net top is annotation.NoSecure (inr first) = (top, is, first)
+breaks_ended rules design net top is annotation.NoClock (inl e) = cc
+breaks_ended rules design net top is annotation.NoClock (inr first) = (top, is, first)
+breaks_ended rules design net top is (annotation.ClockUse w) (inl e) = cc
+breaks_ended rules design net top is (annotation.ClockUse w) (inr first) = (top, is, first)
+
+-- texts that mask the net of an original mask what bytes give
+pub masks_all : (cells : List PlainCell) (bytes : List ℕ) (order : ℕ) (net : PlainNet) (marks : List Mark) → IsOriginal cells bytes net marks → (r : Result Texts Ended)
+    → OnOk r ((size_of net order ≤ size_limit) × IsServed net marks) → IfOk r (λ t. MasksNet net marks order t.net (string_bytes t.report) (string_bytes t.line))
+    → IfOk r (λ t. Masks cells bytes order t.net (string_bytes t.report) (string_bytes t.line))
+masks_all cells bytes order net marks is (Ok t) fits masks = record { original = net; marks = marks; is_original = is; fits = fits.0; served = fits.1; masks = masks }
+masks_all cells bytes order net marks is (Err e) fits masks = tt

@@ -1,0 +1,6 @@
+mod Tops
+pub mod Ends
+mod PortNames
+mod Written
+mod Same
+mod Stimuli
