@@ -4,14 +4,12 @@
 #[cfg(test)]
 mod cell_libraries;
 #[cfg(test)]
+mod fitting;
+#[cfg(test)]
 mod functions;
 #[cfg(test)]
 mod liberty_tokens;
 #[cfg(test)]
-mod small_nets;
-#[cfg(test)]
 mod small_texts;
-#[cfg(test)]
-mod small_tokens;
 #[cfg(test)]
 mod verilog_designs;
