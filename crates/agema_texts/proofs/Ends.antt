@@ -18,7 +18,8 @@ use Rattle.agema_answers.specs.declared.refusal.Refusal.TheVariants as refusal
 use Rattle.agema_answers.specs.declared.refusal.Refusal.TheVariants.{NetSyntax, Loop, BadAnnotation, TooLarge, NotBuilt}
 use Rattle.agema_texts.specs.Original.{IsRead, IsOriginal, EndsBy}
 use Rattle.agema_texts.specs.Marked.{IsMarked, IsUnmarked, IsTooBig, annotation_ended}
-use Rattle.agema_texts.specs.Masks.{IsUnmasked, IsServed, Masks, MasksNet, size_of, size_limit}
+use Rattle.agema_texts.specs.Masks.{IsUnmasked, Masks, MasksNet, size_of, size_limit}
+use Rattle.simple_masking.specs.Simple.{IsServed}
 use Rattle.agema_texts.specs.declared.masked.Texts.{Texts}
 
 ends_by : (P Q : Refusal → Type 0) → ((r : Refusal) → P r → Q r) → (ended : Ended) → EndsBy P ended → EndsBy Q ended

@@ -4,14 +4,14 @@ use Rattle.std.specs.List.{AllByRecursion}
 use Rattle.agm_net.specs.Plain.{PlainNet, bit_names}
 use Rattle.agm_net.specs.WellFormed.{WellFormed}
 use Rattle.agm_net.specs.Writable.{IsWritable}
-use Rattle.agm_net.specs.Simple.{IsSimple, IsProduct}
+use Rattle.simple_masking.specs.Simple.{IsSimple, IsProduct}
 use Rattle.agm_net.specs.declared.mark.Mark.{Mark}
 use Rattle.agm_net.specs.declared.port.Port.{Port}
 use Rattle.share_wiring.specs.ReportOf.{ReportOf, SharedNames, none, shared, public}
 use Rattle.share_wiring.specs.declared.report.Report.{Report}
 use Rattle.share_wiring.specs.declared.report.Mode.TheVariants.{Naive}
 use Rattle.share_wiring.specs.declared.report.Balance.TheVariants.{Pipe}
-use Rattle.agema_texts.specs.Masks.{IsServed}
+use Rattle.simple_masking.specs.Simple.{IsServed}
 
 -- what holds of each item holds of the one at a number
 all_at : {X : Type 0} (P : X → Type 0) (xs : List X) (n : ℕ) (x : X) → AllByRecursion P xs → slice_get xs n ≡ Some x → P x

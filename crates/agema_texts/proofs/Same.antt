@@ -14,7 +14,8 @@ use Rattle.bound_items.specs.declared.fault.BindFault.{BindFault}
 use Rattle.agema_answers.specs.declared.refusal.Refusal.{Refusal}
 use Rattle.agema_answers.specs.declared.refusal.Refusal.TheVariants.{NetSyntax, Loop, BadAnnotation, TooLarge, NotBuilt}
 use Rattle.agema_texts.specs.Original.{IsRead, IsOriginal, Keeps, IsUnread, BreaksRead}
-use Rattle.agema_texts.specs.Masks.{IsServed, CanMask, IsUnmasked, size_of, size_limit}
+use Rattle.agema_texts.specs.Masks.{CanMask, IsUnmasked, size_of, size_limit}
+use Rattle.simple_masking.specs.Simple.{IsServed}
 use Rattle.agema_texts.specs.Sims.{IsClocked, IsUnclocked, CanSim, IsUndriven, IsBadStimulus}
 use Rattle.agema_texts.proofs.Stimuli.{WritesOnce, one_stimulus}
 use Rattle.agema_texts.proofs.Tops.{one_top}

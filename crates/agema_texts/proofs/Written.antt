@@ -4,7 +4,7 @@ use Rattle.std.specs.List.{AllByRecursion, enumerate_from}
 use Rattle.agm_net.specs.Formula.{Formula, f_wire, f_not, f_xor}
 use Rattle.agm_net.specs.Plain.{Line, PlainNet}
 use Rattle.agm_net.specs.Renumbered.{Renumbered, renumbered_port}
-use Rattle.agm_net.specs.Simple.{IsLinear}
+use Rattle.simple_masking.specs.Simple.{IsLinear}
 use Rattle.agm_net.specs.declared.mark.Mark.{Mark}
 use Rattle.agm_net.specs.declared.port.Port.{Port}
 use Rattle.share_wiring.specs.ReportOf.{ReportOf}
@@ -18,7 +18,8 @@ use Rattle.small_text.specs.declared.small.Small.{Small}
 use Rattle.small_net.specs.States.{States}
 use Rattle.small_net.specs.Texts.{mark_at, written_marks, StatesRenumbered}
 use Rattle.agema_texts.specs.Line.{mask_line}
-use Rattle.agema_texts.specs.Masks.{IsServed, MasksNet, GivesNet, is_product, gadgets_of, latency_of}
+use Rattle.agema_texts.specs.Masks.{MasksNet, GivesNet, is_product, gadgets_of, latency_of}
+use Rattle.simple_masking.specs.Simple.{IsServed}
 use Rattle.agema_texts.proofs.PortNames.{Reports}
 
 -- a linear formula is no product

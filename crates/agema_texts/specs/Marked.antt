@@ -9,7 +9,8 @@ use Rattle.verilog_reader.specs.Plain.{PlainModule, PlainDesign}
 use Rattle.top_module.specs.Top.{IsTop}
 use Rattle.logic_graph.specs.Operators.{operators_of}
 use Rattle.agema_texts.specs.Original.{Breaks}
-use Rattle.agema_texts.specs.Masks.{IsServed, size_of, size_limit}
+use Rattle.agema_texts.specs.Masks.{size_of, size_limit}
+use Rattle.simple_masking.specs.Simple.{IsServed}
 use Rattle.agema_answers.specs.declared.ended.Ended.{Ended}
 use Rattle.agema_answers.specs.declared.ended.Ended.TheVariants.{Memory, Refused}
 use Rattle.agema_answers.specs.declared.refusal.Refusal.{Refusal}

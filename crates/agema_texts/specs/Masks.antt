@@ -2,7 +2,7 @@
 use Rattle.std.specs.Prelude.{◌≡◌, ◌≤◌, ◌<◌, ◌*◌, ◌+◌, ◌⊎◌, ℕ, Bool, true, false, List, [], length, filter, Ok}
 use Rattle.agm_net.specs.Formula.{Formula, f_and}
 use Rattle.agm_net.specs.Plain.{PlainNet}
-use Rattle.agm_net.specs.Simple.{IsSimple, IsProduct}
+use Rattle.simple_masking.specs.Simple.{IsServed}
 use Rattle.agm_net.specs.declared.mark.Mark.{Mark}
 use Rattle.annotations.specs.Rules.{annotation_rules}
 use Rattle.cell_library.specs.Judged.{PlainCell}
@@ -29,10 +29,6 @@ size_limit = 65536
 -- what the limit is for: operators times shares squared
 abbrev pub size_of : PlainNet → ℕ → ℕ
 size_of net order = operators_of net * ((order + 1) * (order + 1))
-
--- the nets that are masked so far: simple ones, and those of one product
-abbrev pub IsServed : PlainNet → List Mark → Type 0
-IsServed net marks = IsSimple net marks ⊎ IsProduct net marks
 
 abbrev pub is_product : Formula → Bool
 is_product (f_and x y) = true

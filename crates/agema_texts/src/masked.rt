@@ -5,7 +5,8 @@ ghost use Rattle.verilog_reader.specs.View.{design_view};
 ghost use Rattle.annotations.specs.Rules.{annotation_rules};
 ghost use Rattle.logic_graph.specs.Operators.{operators_of};
 ghost use Rattle.agema_texts.specs.Original.{EndsBy, length_limit};
-ghost use Rattle.agema_texts.specs.Masks.{Masks, MasksNet, IsServed, IsUnmasked, size_of, size_limit};
+ghost use Rattle.agema_texts.specs.Masks.{Masks, MasksNet, IsUnmasked, size_of, size_limit};
+ghost use Rattle.simple_masking.specs.Simple.{IsServed};
 ghost use Rattle.agema_texts.specs.Marked.{HasTopModule, IsMarked, IsUnmarked, IsTooBig};
 
 use crate::line::mask_line;

@@ -10,6 +10,6 @@ pub mod Role
 pub mod View
 pub mod Writable
 pub mod PlainForm
-pub mod Simple
+pub mod Small
 pub mod Label
 pub mod Renumbered

@@ -3,7 +3,7 @@
 ghost use Rattle.std.specs.Prelude.{◌≡◌, ◌≢◌, ◌<◌, ◌≤◌, ◌+◌, ◌-◌, ◌*◌, length, ℕ, IfOk, OnOk, IsTrue};
 ghost use Rattle.agm_net.specs.Formula.{value, xor};
 ghost use Rattle.agm_net.specs.Label.{part_name as part_name_of, k_rr, k_r, k_vx, k_s};
-ghost use Rattle.agm_net.specs.Simple.{IsCell};
+ghost use Rattle.agm_net.specs.Small.{IsCell};
 ghost use Rattle.share_wiring.specs.Gates.{gate_formula, gate_below};
 ghost use Rattle.share_wiring.specs.Wiring.{MayBeShare, names};
 ghost use Rattle.share_wiring.specs.Adds.{Extends, AddsFact, random_bits};

@@ -9,7 +9,7 @@ use Rattle.std.proofs.lemmas.Option.{slice_get-get_or, slice_get_within, get_or_
 use Rattle.agm_net.specs.Formula.{Formula, f_zero, f_one, f_wire, f_not, f_and, f_or, f_xor, f_mux, stands, reads_below}
 use Rattle.agm_net.specs.Plain.{Line, Stored, PlainNet, input_bits, clock_bits, is_input}
 use Rattle.agm_net.specs.WellFormed.{WellFormed}
-use Rattle.agm_net.specs.Simple.{ReadsKnown}
+use Rattle.agm_net.specs.Small.{ReadsKnown}
 use Rattle.logic_graph.specs.declared.nodes.Node.{Node}
 use Rattle.logic_graph.specs.declared.nodes.Node.TheVariants.{Zero, One, Input, Q}
 use Rattle.logic_graph.specs.declared.graphs.Graph.{Graph}

@@ -4,7 +4,7 @@ use Rattle.std.specs.List.{list_any, list_all, AllByRecursion}
 use Rattle.agm_net.specs.Formula.{Formula, f_zero, f_one, f_wire, f_not, f_and, f_or, f_xor, f_mux, stands, reads_below}
 use Rattle.agm_net.specs.Plain.{Line}
 use Rattle.agm_net.specs.Loop.{IsChain, last_of}
-use Rattle.agm_net.specs.Simple.{ReadsKnown}
+use Rattle.agm_net.specs.Small.{ReadsKnown}
 use Rattle.logic_graph.specs.declared.ordering.GraphFault.{GraphFault}
 use Rattle.logic_graph.specs.declared.ordering.GraphFault.TheVariants.{Loop, Memory}
 use Rattle.logic_graph.specs.declared.search.Mark.{Mark}

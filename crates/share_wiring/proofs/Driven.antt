@@ -1,5 +1,5 @@
--- Every stimulus drives a net with the ports of a masked net, where the original has neither a clock nor registers.
-use Rattle.std.proofs.Common.{◌≡◌, ◌≢◌, ◌<◌, ◌≤◌, ◌+◌, ◌-◌, ◌*◌, ◌/◌, ◌%◌, ◌^◌, ◌==◌, ◌++◌, ℕ, zero, suc, Bool, true, false, cond, List, [], ◌∷◌, None, Some, map, filter, reverse, length, flat_map, slice_get, IsTrue, nat_lt, refl, sym, ap, ap₂, subst, inl, inr, ◌∙◌, arith, codes, bytes_eq, zero-add, mul-le-mul_left, mul-suc, mul_comm, eq-eqb}
+-- Every stimulus drives a net with the ports of a masked net, where the original has no registers.
+use Rattle.std.proofs.Common.{◌≡◌, ◌≢◌, ◌<◌, ◌≤◌, ◌+◌, ◌-◌, ◌*◌, ◌/◌, ◌%◌, ◌^◌, ◌==◌, ◌++◌, ℕ, zero, suc, Bool, true, false, cond, List, [], ◌∷◌, Option, None, Some, map, filter, take, drop, reverse, length, flat_map, slice_get, IsTrue, nat_lt, refl, sym, ap, ap₂, subst, inl, inr, ◌∙◌, arith, codes, bytes_eq, zero-add, mul-le-mul_left, mul-suc, mul_comm, eq-eqb}
 use Rattle.std.specs.List.{AllByRecursion, list_any, range_with_len}
 use Rattle.std.proofs.lemmas.Bool.{cases_Bool, or_left, or_right, cond-true, cond-false, false_from_ne_true}
 use Rattle.std.proofs.lemmas.List.{length-map, length-append, map-append}
@@ -210,13 +210,30 @@ shares_apart report name (p ∷ ps) apart shared =
     (subst (AllByRecursion (λ h. bytes_eq h.name name ≡ false)) (sym mine) (all_in_range (λ h. bytes_eq h.name name ≡ false) header 0 (report.order + 1) (λ i lt. apart i p.name)))
     (shares_apart report name ps apart shared.1)
 
-module _ (original : PlainNet) (report : Report) (net : PlainNet) (streams : List Stream) (steps : ℕ) (power : Row)
-    (first : WellFormed original) (no_clock : original.clock ≡ None) (well : WellFormed net) (no_loop : HasNoLoop net) (shape : Shape original report net)
-    (shared : AllByRecursion (λ p. IsTrue (is_shared report p.name)) original.ports)
-    (stateless : IsStateless report) (stimulus : IsStimulus original report streams steps) (powered : length power ≡ length net.registers) where
-  ports_are : data_ports original ≡ original.ports
-  ports_are = ap (λ c. ports_but c original.ports) no_clock
+-- a port that is not the clock's has a place among all
+place_but : (p : Port) (ports : List Port) (c n : ℕ) → slice_get (take c ports ++ drop (c + 1) ports) n ≡ Some p → (m : ℕ) × (slice_get ports m ≡ Some p)
+place_but p [] zero n at = (n, at)
+place_but p [] (suc c) n at =
+    let next : suc c + 1 ≡ suc (c + 1) = omega arith in
+    (n, subst (λ k. slice_get (take (suc c) [] ++ drop k []) n ≡ Some p) next at)
+place_but p (q ∷ qs) zero n at = (suc n, at)
+place_but p (q ∷ qs) (suc c) zero at = (0, at)
+place_but p (q ∷ qs) (suc c) (suc n) at =
+    let next : suc c + 1 ≡ suc (c + 1) = omega arith in
+    let rest = place_but p qs c n (subst (λ k. slice_get (take c qs ++ drop k (q ∷ qs)) n ≡ Some p) next at) in
+    (suc rest.0, rest.1)
 
+place_of : (net : PlainNet) (n : ℕ) (p : Port) → slice_get (data_ports net) n ≡ Some p → (m : ℕ) × (slice_get net.ports m ≡ Some p)
+place_of net n p at = of_clock net.clock at
+  where
+    of_clock : (clock : Option ℕ) → slice_get (ports_but clock net.ports) n ≡ Some p → (m : ℕ) × (slice_get net.ports m ≡ Some p)
+    of_clock None found = (n, found)
+    of_clock (Some c) found = place_but p net.ports c n found
+
+module _ (original : PlainNet) (report : Report) (net : PlainNet) (streams : List Stream) (steps : ℕ) (power : Row)
+    (first : WellFormed original) (well : WellFormed net) (no_loop : HasNoLoop net) (shape : Shape original report net)
+    (shared : AllByRecursion (λ p. IsTrue (is_shared report p.name)) (data_ports original))
+    (stateless : IsStateless report) (stimulus : IsStimulus original report streams steps) (powered : length power ≡ length net.registers) where
   -- the inputs of cycle t
   abbrev step_row : ℕ → Row
   step_row t = row_at (stream_at streams ((t - 1) % report.period)).steps ((t - 1) / report.period)
@@ -285,31 +302,30 @@ module _ (original : PlainNet) (report : Report) (net : PlainNet) (streams : Lis
   load_is t lt = port_is t (one_input (codes "agm_load")) lt refl (λ e. (let r : ◌≡◌ {A = ℕ} 108 99 = cc in absurd (omega (arith, r)))) (load_port original report net shape)
 
   -- the ports of the shares of an input
-  share_row : (t n : ℕ) (p : Port) → t < length table → slice_get original.ports n ≡ Some p → is_input p ≡ true → (i : ℕ) → i ≤ report.order
+  share_row : (t n : ℕ) (p : Port) → t < length table → slice_get (data_ports original) n ≡ Some p → is_input p ≡ true → (i : ℕ) → i ≤ report.order
       → port_value net (share_name i p.name) (bit_at table t) ≡ resize (width p.range) (lookup (map (entry (step_bits t)) original.ports) (share_name i p.name))
   share_row t n p lt at input i le =
       port_is t (record { name = share_name i p.name; way = p.way; range = p.range }) lt (way_is p.way input) (λ e. (let r : ◌≡◌ {A = ℕ} 115 99 = cc in absurd (omega (arith, r))))
-      (share_port original report net shape p i (subst (IsOneOf p) (sym ports_are) (one_at p original.ports n at)) (all_of_one (λ q. IsTrue (is_shared report q.name)) original.ports n p shared at) le)
+      (share_port original report net shape p i (one_at p (data_ports original) n at) (all_of_one (λ q. IsTrue (is_shared report q.name)) (data_ports original) n p shared at) le)
 
   -- recombine to its bits
-  value_is : (t n : ℕ) (p : Port) → t < length table → slice_get original.ports n ≡ Some p → is_input p ≡ true → masked_value net report p.name (bit_at table t) ≡ map (step_bits t) p.bits
+  value_is : (t n : ℕ) (p : Port) → t < length table → slice_get (data_ports original) n ≡ Some p → is_input p ≡ true → masked_value net report p.name (bit_at table t) ≡ map (step_bits t) p.bits
   value_is t n p lt at input =
+      let place = place_of original n p at in
       let row : ℕ → Row = λ i. port_value net (share_name i p.name) (bit_at table t) in
-      let count : length (map (step_bits t) p.bits) ≡ width p.range = length-map p.bits (step_bits t) ∙ bit_count original first n p at in
+      let count : length (map (step_bits t) p.bits) ≡ width p.range = length-map p.bits (step_bits t) ∙ bit_count original first place.0 p place.1 in
       let few = stateless.few in
-      cond-true (is_shared report p.name) (recombined_rows report.order row) (port_value net p.name (bit_at table t)) (all_of_one (λ q. IsTrue (is_shared report q.name)) original.ports n p shared at)
+      cond-true (is_shared report p.name) (recombined_rows report.order row) (port_value net p.name (bit_at table t)) (all_of_one (λ q. IsTrue (is_shared report q.name)) (data_ports original) n p shared at)
       ∙ first_alone report.order (width p.range) row (map (step_bits t) p.bits) count
       (share_row t n p lt at input 0 (omega arith)
-      ∙ (ap (resize (width p.range)) (own_entry (step_bits t) original.ports n p first.ports_right.ports_differ at) ∙ resize_same (width p.range) (map (step_bits t) p.bits) count))
+      ∙ (ap (resize (width p.range)) (own_entry (step_bits t) original.ports place.0 p first.ports_right.ports_differ place.1) ∙ resize_same (width p.range) (map (step_bits t) p.bits) count))
       (λ i le. share_row t n p lt at input (suc i) le ∙ ap (resize (width p.range)) (no_entry (step_bits t) original.ports i p.name (omega (arith, le, few))))
 
   inputs_are : (t : ℕ) → t < length table → length (step_row t) ≡ length (input_bits original) → input_values original report net (bit_at table t) ≡ step_row t
   inputs_are t lt count =
-      ap (λ ps. flat_map (λ p. masked_value net report p.name (bit_at table t)) (filter is_input ps)) ports_are
-      ∙ (filtered (λ p. masked_value net report p.name (bit_at table t)) (λ p. map (step_bits t) p.bits) is_input original.ports (λ n p at input. value_is t n p lt at input)
-      ∙ (sym (map_flat_map (step_bits t) (λ p. p.bits) (filter is_input original.ports))
-      ∙ (ap (λ ps. map (step_bits t) (flat_map (λ p. p.bits) (filter is_input ps))) (sym ports_are)
-      ∙ given_row (input_bits original) (step_row t) count (data_once original first))))
+      filtered (λ p. masked_value net report p.name (bit_at table t)) (λ p. map (step_bits t) p.bits) is_input (data_ports original) (λ n p at input. value_is t n p lt at input)
+      ∙ (sym (map_flat_map (step_bits t) (λ p. p.bits) (filter is_input (data_ports original)))
+      ∙ given_row (input_bits original) (step_row t) count (data_once original first))
 
   -- no port has another name
   others : (name : List ℕ) → bytes_eq (codes "agm_clk") name ≡ false → bytes_eq (codes "agm_load") name ≡ false → bytes_eq (codes "agm_r") name ≡ false
@@ -326,7 +342,7 @@ module _ (original : PlainNet) (report : Report) (net : PlainNet) (streams : Lis
         (
           load,
           all_joined P (input_of_width (codes "agm_r") report.random) (publics ++ (states ++ own)) (random_apart name report.random random)
-              (subst (AllByRecursion P) (sym (ap₂ (λ xs ys. xs ++ (ys ++ own)) no_publics no_states)) (subst (λ ps. AllByRecursion P (flat_map (masked_headers report) ps)) (sym ports_are) (shares_apart report name original.ports apart shared))),
+              (subst (AllByRecursion P) (sym (ap₂ (λ xs ys. xs ++ (ys ++ own)) no_publics no_states)) (shares_apart report name (data_ports original) apart shared)),
         ),
       )
 

@@ -8,11 +8,10 @@ use Rattle.std.proofs.lemmas.Bool.{eqb-true, or_cases, and_parts, cases_Bool, fa
 use Rattle.agm_net.specs.Formula.{reads_below}
 use Rattle.agm_net.specs.Plain.{Line, PlainNet, is_input}
 use Rattle.agm_net.specs.WellFormed.{WellFormed}
-use Rattle.agm_net.specs.Simple.{InOrder}
+use Rattle.agm_net.specs.Small.{InOrder}
 use Rattle.agm_net.specs.declared.port.Port.{Port}
 use Rattle.share_wiring.proofs.Lists.{all_from, count_yes, count_more, count_some, count_none, some_counted}
 use Rattle.share_wiring.proofs.Loops.{IsFresh}
-use Rattle.share_wiring.proofs.Unique.{Agree}
 
 -- the bits of the input ports among some ports
 abbrev pub inputs_of : List Port → List ℕ
@@ -82,17 +81,17 @@ fresh_from_counts n known (l ∷ ls) fits order none once =
           (λ w lt. let most = once w lt in let less = fewer w in omega arith),
     )
 
--- the equations of a net, in order, are fresh
-pub fresh_lines : (net : PlainNet) → WellFormed net → InOrder (is_bit_in net) net.lines → IsFresh (is_bit_in net) net.lines
-fresh_lines net well order =
+-- the equations of a net, in order by some input bits, are fresh
+pub fresh_lines : (net : PlainNet) (known : ℕ → Bool) → WellFormed net → ((w : ℕ) → IsTrue (known w) → IsTrue (is_bit_in net w)) → InOrder known net.lines → IsFresh known net.lines
+fresh_lines net known well inputs order =
     let n = length net.wires in
     let fits = all_from (λ l. (l.0 < n) × IsTrue (reads_below n l.1)) (λ l. l.0 < n) (λ l h. h.0) net.lines (lines_fit net well) in
-    fresh_from_counts n (is_bit_in net) net.lines fits order
-    (λ w lt h. let all = well.one_driver w lt in let some = count_some (λ b. b == w) (bits_in net) h in omega arith)
+    fresh_from_counts n known net.lines fits order
+    (λ w lt h. let all = well.one_driver w lt in let some = count_some (λ b. b == w) (bits_in net) (inputs w h) in omega arith)
     (λ w lt. let all = well.one_driver w lt in omega arith)
 
 -- rows that agree on the wires of equations agree on each of them
-line_agree : (x y : ℕ → Bool) (lines : List Line) (w : ℕ) → AllByRecursion (λ l. x l.0 ≡ y l.0) lines → IsTrue (list_any (λ l. l.0 == w) lines) → x w ≡ y w
+pub line_agree : (x y : ℕ → Bool) (lines : List Line) (w : ℕ) → AllByRecursion (λ l. x l.0 ≡ y l.0) lines → IsTrue (list_any (λ l. l.0 == w) lines) → x w ≡ y w
 line_agree x y [] w h some = absurd (let no : false ≡ true = some in cc)
 line_agree x y (l ∷ ls) w h some =
     elim (or_cases (l.0 == w) (list_any (λ k. k.0 == w) ls) some) [
@@ -112,8 +111,3 @@ driver_cases net P well plain w lt input line =
           let registers : count_by (λ r. r.q == w) net.registers ≡ 0 = rw plain refl in
           line (some_counted (λ l. l.0 == w) net.lines (omega arith)))
     ]
-
--- rows that agree on input bits and on the wires of equations agree on all wires
-pub wires_agree : (net : PlainNet) (x y : ℕ → Bool) → WellFormed net → net.registers ≡ [] → Agree (is_bit_in net) x y → AllByRecursion (λ l. x l.0 ≡ y l.0) net.lines
-    → (w : ℕ) → w < length net.wires → x w ≡ y w
-wires_agree net x y well plain inputs lines w lt = driver_cases net (x w ≡ y w) well plain w lt (inputs w) (line_agree x y net.lines w lines)

@@ -5,7 +5,7 @@ use Rattle.std.proofs.lemmas.Bool.{eqb-true, or_cases, or_left, or_right, and_pa
 use Rattle.agm_net.specs.Formula.{stands}
 use Rattle.agm_net.specs.Plain.{Line, PlainNet}
 use Rattle.agm_net.specs.Loop.{reads, IsChain, last_of, HasNoLoop}
-use Rattle.agm_net.specs.Simple.{ReadsKnown}
+use Rattle.agm_net.specs.Small.{ReadsKnown}
 
 -- whether an equation is for wire w and reads wire v
 abbrev pub line_reads : ℕ → ℕ → Line → Bool

@@ -7,7 +7,7 @@ use Rattle.std.proofs.lemmas.List.Folds.{list_any-append}
 use Rattle.std.proofs.lemmas.Slice.Eq.{starts_is}
 use Rattle.agm_net.specs.Plain.{bit_names}
 use Rattle.agm_net.specs.PlainForm.{IsWire, IsOneOperator, IsNextOf, RangeFits, IsPlain}
-use Rattle.agm_net.specs.Simple.{IsCell, IsSmallNet}
+use Rattle.agm_net.specs.Small.{IsCell, IsSmallNet}
 use Rattle.agm_net.specs.declared.port.Port.{Port}
 use Rattle.agm_net.specs.declared.port.Range.{Range}
 use Rattle.share_wiring.specs.Built.{AreDistinct, HasItsBits, IsAmong, IsBuilt, IsInnerName, IsInnerOrBit, IsMadePort, IsSmallRange, bits_names}

@@ -5,7 +5,7 @@ use Rattle.std.proofs.lemmas.Bool.{eqb-true, or_cases, or_left, or_right}
 use Rattle.agm_net.specs.Formula.{Formula, f_zero, f_one, f_wire, f_not, f_and, f_or, f_xor, f_mux, value, stands}
 use Rattle.agm_net.specs.Plain.{Line}
 use Rattle.agm_net.specs.Trace.{Holds}
-use Rattle.agm_net.specs.Simple.{InOrder}
+use Rattle.agm_net.specs.Small.{InOrder}
 
 -- two rows agree on the known wires
 abbrev pub Agree : (ℕ → Bool) → (ℕ → Bool) → (ℕ → Bool) → Type 0

@@ -1,7 +1,7 @@
 -- Wires that the small form can state.
 use Rattle.std.specs.Prelude.{List}
 use Rattle.std.specs.List.{AllByRecursion}
-use Rattle.agm_net.specs.Simple.{IsCell}
+use Rattle.agm_net.specs.Small.{IsCell}
 use Rattle.share_wiring.specs.Gates.{gate_formula}
 use Rattle.share_wiring.specs.Wiring.{Wiring}
 use Rattle.share_wiring.specs.declared.gate.Source.{Source}

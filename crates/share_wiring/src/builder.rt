@@ -7,7 +7,7 @@ ghost use Rattle.agm_net.specs.Formula.{formula_of, value, reads_below};
 ghost use Rattle.agm_net.specs.Plain.{bit_names};
 ghost use Rattle.agm_net.specs.View.{plain_of};
 ghost use Rattle.agm_net.specs.PlainForm.{IsPlain};
-ghost use Rattle.agm_net.specs.Simple.{IsCell, IsSmallNet};
+ghost use Rattle.agm_net.specs.Small.{IsCell, IsSmallNet};
 ghost use Rattle.agm_net.specs.Loop.{HasNoLoop};
 ghost use Rattle.agm_net.specs.Trace.{Row, IsTrace, bit_at};
 ghost use Rattle.agm_net.specs.Label.{gadget_name};

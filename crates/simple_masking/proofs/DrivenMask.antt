@@ -1,8 +1,8 @@
 -- Every stimulus drives the masked net of a net that is served.
-use Rattle.std.proofs.Common.{◌≡◌, ◌≤◌, ◌⊎◌, ℕ, List, [], ◌∷◌, None, Some, length, map, slice_get, bytes_eq, IsTrue, refl, sym, ap, subst, inl, inr, ◌∙◌, arith}
+use Rattle.std.proofs.Common.{◌≡◌, ◌≤◌, ◌⊎◌, ℕ, List, [], ◌∷◌, Some, length, map, slice_get, bytes_eq, IsTrue, refl, sym, ap, subst, inl, inr, ◌∙◌, arith}
 use Rattle.std.specs.List.{AllByRecursion, list_any}
-use Rattle.agm_net.specs.Plain.{PlainNet}
-use Rattle.agm_net.specs.Simple.{IsSimple, IsProduct}
+use Rattle.agm_net.specs.Plain.{PlainNet, data_ports}
+use Rattle.simple_masking.specs.Simple.{IsSimple, IsProduct}
 use Rattle.agm_net.specs.Trace.{Row, IsTrace}
 use Rattle.agm_net.specs.WellFormed.{WellFormed}
 use Rattle.agm_net.specs.declared.mark.Mark.{Mark}
@@ -34,14 +34,12 @@ one_list net marks (p ∷ ps) [] xs ys a b = elim a [ ]
 
 -- what is known of a net that is served
 record Served (net : PlainNet) (marks : List Mark) : Type 0 where
-  no_clock : net.clock ≡ None
   no_register : net.registers ≡ []
-  names : SharedNames net marks net.ports marks (map (λ p. p.name) net.ports)
+  names : SharedNames net marks net.ports marks (map (λ p. p.name) (data_ports net))
 
 served : (net : PlainNet) (marks : List Mark) → WellFormed net → IsSimple net marks ⊎ IsProduct net marks → Served net marks
-served net marks well (inl simple) = record { no_clock = simple.no_clock; no_register = simple.no_register; names = (simple_reported 1 net marks well simple).ports_are }
+served net marks well (inl simple) = record { no_register = simple.no_register; names = (simple_reported 1 net marks well simple).ports_are }
 served net marks well (inr product) = record {
-  no_clock = product.else_simple.no_clock;
   no_register = product.else_simple.no_register;
   names = (product_report 1 net marks product.target product.left product.right well product.product product.else_simple).ports_are;
 }
@@ -70,10 +68,10 @@ module _ (net : PlainNet) (marks : List Mark) (order gadgets latency : ℕ) (rep
         few = omega (arith, is, few);
       }
 
-  all_shared : AllByRecursion (λ p. IsTrue (is_shared report p.name)) net.ports
+  all_shared : AllByRecursion (λ p. IsTrue (is_shared report p.name)) (data_ports net)
   all_shared =
-      let names : report.ports ≡ map (λ p. p.name) net.ports = one_list net marks net.ports marks report.ports (map (λ p. p.name) net.ports) reported.ports_are known.names in
-      subst (λ ns. AllByRecursion (λ p. IsTrue (list_any (λ n. bytes_eq n p.name) ns)) net.ports) (sym names) (each_named net.ports)
+      let names : report.ports ≡ map (λ p. p.name) (data_ports net) = one_list net marks net.ports marks report.ports (map (λ p. p.name) (data_ports net)) reported.ports_are known.names in
+      subst (λ ns. AllByRecursion (λ p. IsTrue (list_any (λ n. bytes_eq n p.name) ns)) (data_ports net)) (sym names) (each_named (data_ports net))
 
   pub masked_is_driven : (tape : List Row) × (table : List Row) × IsTrace masked power tape table × Drives net [] report masked streams steps table
-  masked_is_driven = is_driven net report masked streams steps power well known.no_clock formed same.no_loop same.shape all_shared stateless stimulus powered
+  masked_is_driven = is_driven net report masked streams steps power well formed same.no_loop same.shape all_shared stateless stimulus powered

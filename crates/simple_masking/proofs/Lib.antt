@@ -2,6 +2,7 @@ pub mod NewPorts
 pub mod SharePorts
 pub mod PortSteps
 pub mod Solving
+pub mod DataPorts
 pub mod PortFacts
 pub mod Entering
 pub mod Placing

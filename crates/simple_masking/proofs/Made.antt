@@ -3,7 +3,7 @@ use Rattle.std.proofs.Common.{◌≡◌, ◌<◌, ◌+◌, ◌==◌, ◌++◌, �
 use Rattle.std.specs.List.{AllByRecursion, list_any}
 use Rattle.std.proofs.lemmas.Bool.{or_left, or_right}
 use Rattle.agm_net.specs.Loop.{HasNoLoop}
-use Rattle.agm_net.specs.Plain.{PlainNet, Line, is_input}
+use Rattle.agm_net.specs.Plain.{PlainNet, Line, data_ports, is_input}
 use Rattle.agm_net.specs.Trace.{Row, IsTrace, Holds, bit_at}
 use Rattle.agm_net.specs.WellFormed.{WellFormed}
 use Rattle.agm_net.specs.declared.port.Port.{Port}
@@ -15,7 +15,7 @@ use Rattle.share_wiring.proofs.Unique.{same_value}
 use Rattle.simple_masking.specs.Shared.{shares_of, worth, Solves, HasSharing, bit_of, is_input_bit, Stands, HasInputs, HasPorts, IsLikeSimple, IsMaskOf, Follows, first_ports}
 use Rattle.simple_masking.proofs.Entering.{Is, are_changed}
 use Rattle.simple_masking.proofs.PortFacts.{one_bits, all_filter}
-use Rattle.agm_net.specs.Simple.{IsSmallNet}
+use Rattle.agm_net.specs.Small.{IsSmallNet}
 
 -- each port's bit is one of all
 bits_within : (ps : List Port) → AllByRecursion (λ p. p.bits ≡ bit_of p ∷ []) ps → AllByRecursion (λ p. IsTrue (list_any (λ b. b == bit_of p) (flat_map (λ q. q.bits) ps))) ps
@@ -29,14 +29,14 @@ bits_within (p ∷ ps) ones =
 
 -- the ports of inputs stay where the sharings of input bits do
 pub inputs_stay : (net : PlainNet) (n : ℕ) (front : List Port) (old new : Wiring) (table table' : List (Sharing n)) → WellFormed net → IsLikeSimple net
-    → ((w : ℕ) → IsTrue (is_input_bit net w) → shares_of table' w ≡ shares_of table w) → new.ports ≡ old.ports → HasInputs n front old table (filter is_input net.ports)
-    → HasInputs n front new table' (filter is_input net.ports)
+    → ((w : ℕ) → IsTrue (is_input_bit net w) → shares_of table' w ≡ shares_of table w) → new.ports ≡ old.ports → HasInputs n front old table (filter is_input (data_ports net))
+    → HasInputs n front new table' (filter is_input (data_ports net))
 inputs_stay net n front old new table table' well like same stays given = record {
   made = given.made;
   ports = stays ∙ given.ports;
-  shared = are_changed n (Is table) (Is table') (filter is_input net.ports) given.made
+  shared = are_changed n (Is table) (Is table') (filter is_input (data_ports net)) given.made
       (all_from (λ p. IsTrue (is_input_bit net (bit_of p))) (λ p. (i w : ℕ) → i < n → Is table p i w → Is table' p i w) (λ p h i w lt e. e ∙ ap (λ xs. share xs i) (sym (same (bit_of p) h)))
-      (filter is_input net.ports) (bits_within (filter is_input net.ports) (all_filter (λ p. p.bits ≡ bit_of p ∷ []) net.ports (one_bits net well like))))
+      (filter is_input (data_ports net)) (bits_within (filter is_input (data_ports net)) (all_filter (λ p. p.bits ≡ bit_of p ∷ []) (data_ports net) (one_bits net well like))))
       given.shared;
 }
 
@@ -56,7 +56,7 @@ either false t = omega arith
 -- the net of a builder that has the ports, and in whose traces the equations hold in each cycle
 pub is_mask_of : (original masked : PlainNet) (n : ℕ) (solved net : Wiring) (table : List (Sharing n)) → masked ≡ net_of net → HasNoLoop masked → IsSmallNet masked
     → ((power : Row) (tape rows : List Row) → IsTrace masked power tape rows → IsRun net.wires (length rows) (bit_at rows))
-    → HasPorts n (first_ports 0) net table original.ports → AddsFact solved net (λ cycles bits. Unit {0}) → Solves solved.wires table original.lines → IsMaskOf original n 0 0 masked
+    → HasPorts n (first_ports 0) net table (data_ports original) → AddsFact solved net (λ cycles bits. Unit {0}) → Solves solved.wires table original.lines → IsMaskOf original n 0 0 masked
 is_mask_of original masked n solved net table is no_loop small runs has adds solves = record {
   shares = shares_of table;
   made = has.made;
@@ -64,7 +64,7 @@ is_mask_of original masked n solved net table is no_loop small runs has adds sol
   clock = ap (λ (m : PlainNet). m.clock) is;
   no_loop = no_loop;
   small = small;
-  shared = are_changed n (Stands net.wires table) (Follows masked (shares_of table)) original.ports has.made (every original.ports) has.shared;
+  shared = are_changed n (Stands net.wires table) (Follows masked (shares_of table)) (data_ports original) has.made (every (data_ports original)) has.shared;
   solves = λ power tape rows trace t lt.
       let run = runs power tape rows trace in
       let kept = (adds (length rows) (bit_at rows) run).0 in

@@ -1,5 +1,5 @@
 -- The loop that makes the ports of outputs.
-use Rattle.std.proofs.Common.{◌≡◌, ◌≢◌, ◌<◌, ◌≤◌, ◌+◌, ◌++◌, ℕ, List, [], ◌∷◌, length, map, take, drop, refl, sym, ap, ap₂, subst, ◌∙◌, arith, append_assoc, length-append}
+use Rattle.std.proofs.Common.{◌≡◌, ◌≢◌, ◌<◌, ◌≤◌, ◌+◌, ◌++◌, ℕ, zero, suc, List, [], ◌∷◌, length, map, take, drop, refl, sym, ap, ap₂, subst, ◌∙◌, arith, append_assoc, append-nil, length-append}
 use Rattle.std.specs.List.{AllByRecursion}
 use Rattle.std.proofs.Math.Seq.{take-append_seam, drop-append_seam}
 use Rattle.std.proofs.lemmas.List.FromFn.{length-map-range_with_len}
@@ -11,7 +11,7 @@ use Rattle.share_wiring.specs.Built.{IsNew}
 use Rattle.share_wiring.specs.Wiring.{Wiring, share}
 use Rattle.share_wiring.specs.declared.sharing.Sharing.{Sharing}
 use Rattle.share_wiring.proofs.Lists.{all_joined}
-use Rattle.simple_masking.specs.Shared.{one_bit, share_ports, IsOneOrRandom, HasNoShare, HasNoShares, shares_of, bit_of, ArePorts, HasInputs, Stands}
+use Rattle.simple_masking.specs.Shared.{one_bit, share_ports, IsOneOrRandom, HasNoShare, HasNoShares, shares_of, bit_of, ArePorts, HasInputs, HasPorts, Stands}
 use Rattle.share_wiring.proofs.Runs.{extends_refl, extends_trans}
 use Rattle.simple_masking.proofs.SharePorts.{new_joined}
 use Rattle.simple_masking.proofs.Entering.{Is, are_changed, are_more, are_new, are_ones}
@@ -123,3 +123,17 @@ module _ (n : ℕ) (front : List Port) (old now : Wiring) (table : List (Sharing
             (are_changed n (Stands now.wires table) (Stands new.wires table) done before.first (all_true later done) before.done_shared);
         rest_shared = are_changed n (Stands now.wires table) (Stands new.wires table) rest before.last (all_true later rest) before.rest_shared;
       }
+
+pub drop_past : {X : Type 0} (k : ℕ) (xs : List X) → length xs ≤ k → drop k xs ≡ []
+drop_past zero [] le = refl
+drop_past zero (x ∷ xs) le = absurd (omega arith)
+drop_past (suc k) [] le = refl
+drop_past (suc k) (x ∷ xs) le = drop_past k xs (omega arith)
+
+-- when no port is left
+pub placing_last : (n : ℕ) (front : List Port) (old now : Wiring) (table : List (Sharing n)) (place : ℕ) (done : List Port) → Placing n front old now table place done [] → HasPorts n front now table done
+placing_last n front old now table place done placing = record {
+  made = placing.first;
+  all = placing.ports ∙ ap (λ qs. front ++ qs) (ap (λ qs. placing.first ++ qs) placing.rest_shared ∙ append-nil placing.first);
+  shared = placing.done_shared;
+}

@@ -1,11 +1,12 @@
 -- What is known of the ports of a net whose ports are those of a simple net.
-use Rattle.std.proofs.Common.{◌≡◌, ◌≢◌, ◌<◌, ◌+◌, ◌==◌, ◌++◌, ℕ, zero, suc, true, false, cond, List, [], ◌∷◌, Some, None, length, map, take, drop, filter, get_or, slice_get, IsTrue, refl, sym, ap, ap₂, subst, inl, inr, ◌∙◌, arith, flat_map}
+use Rattle.std.proofs.Common.{◌≡◌, ◌≢◌, ◌<◌, ◌+◌, ◌==◌, ◌++◌, ℕ, zero, suc, true, false, not, cond, List, [], ◌∷◌, Option, Some, None, length, map, take, drop, filter, get_or, slice_get, IsTrue, refl, sym, ap, ap₂, subst, inl, inr, ◌∙◌, arith, flat_map, append-nil}
 use Rattle.std.specs.List.{AllByRecursion, list_any}
-use Rattle.std.proofs.lemmas.Bool.{cases_Bool, or_cases, eqb-true}
+use Rattle.std.proofs.lemmas.Bool.{and_from, and_parts, both_ways, cases_Bool, false_from_ne_true, not-true, not_from_false, or_cases, eqb-true}
 use Rattle.std.proofs.Math.Seq.{drop-cons, take-suc}
+use Rattle.std.proofs.lemmas.List.{length-take-le}
 use Rattle.std.proofs.lemmas.List.Elements.{filter-append}
 use Rattle.std.proofs.lemmas.Option.{slice_get_within, slice_get-get_or}
-use Rattle.agm_net.specs.Plain.{PlainNet, is_in, is_input, bit_names}
+use Rattle.agm_net.specs.Plain.{PlainNet, data_ports, is_in, is_input, bit_names}
 use Rattle.agm_net.specs.WellFormed.{WellFormed, Differ}
 use Rattle.agm_net.specs.Writable.{IsWritable}
 use Rattle.agm_net.specs.declared.port.Port.{Port}
@@ -13,7 +14,9 @@ use Rattle.agm_net.specs.declared.port.Way.{Way}
 use Rattle.agm_net.specs.declared.port.Way.TheVariants.{Input, Output}
 use Rattle.share_wiring.proofs.Lists.{all_of_one, all_from}
 use Rattle.simple_masking.proofs.FirstWires.{StandFrom, stand}
-use Rattle.simple_masking.specs.Shared.{bit_of, IsLikeSimple}
+use Rattle.simple_masking.specs.ServedNet.{is_data_input}
+use Rattle.simple_masking.specs.Shared.{bit_of, data_from, is_clock, IsLikeSimple}
+use Rattle.simple_masking.proofs.DataPorts.{all_data, data_all, data_joined, output_apart}
 
 pub record PortFacts (net : PlainNet) (k : ℕ) (p : Port) : Type 0 where
   pub bits : p.bits ≡ k ∷ []
@@ -91,25 +94,6 @@ pub all_filter : (P : Port → Type 0) (ports : List Port) → AllByRecursion P 
 all_filter P [] h = tt
 all_filter P (p ∷ ps) h = elim (cases_Bool (is_input p)) [ inl kept ↦ rw kept (h.0, all_filter P ps h.1) | inr left ↦ rw left (all_filter P ps h.1) ]
 
--- one input port more, and one that is none
-pub filter_yes : (ports : List Port) (k : ℕ) (p : Port) → k < length ports → p ≡ get_or ports k p → is_input p ≡ true → filter is_input (take (k + 1) ports) ≡ filter is_input (take k ports) ++ p ∷ []
-filter_yes ports k p lt e is =
-    let next : k + 1 ≡ suc k = omega arith in
-    ap (λ n. filter is_input (take n ports)) next
-    ∙ (ap (filter is_input) (take-suc ports k p lt ∙ ap (λ q. take k ports ++ q ∷ []) (sym e))
-    ∙ (filter-append is_input (take k ports) (p ∷ []) ∙ ap (λ b. filter is_input (take k ports) ++ cond b (p ∷ []) []) is))
-
-pub filter_no : (ports : List Port) (k : ℕ) (p : Port) → k < length ports → p ≡ get_or ports k p → is_input p ≡ false → filter is_input (take (k + 1) ports) ≡ filter is_input (take k ports)
-filter_no ports k p lt e is =
-    let next : k + 1 ≡ suc k = omega arith in
-    ap (λ n. filter is_input (take n ports)) next
-    ∙ (ap (filter is_input) (take-suc ports k p lt ∙ ap (λ q. take k ports ++ q ∷ []) (sym e))
-    ∙ (filter-append is_input (take k ports) (p ∷ []) ∙ (ap (λ b. filter is_input (take k ports) ++ cond b (p ∷ []) []) is ∙ none (filter is_input (take k ports)))))
-  where
-    none : (xs : List Port) → xs ++ [] ≡ xs
-    none [] = refl
-    none (x ∷ xs) = ap (λ ys. x ∷ ys) (none xs)
-
 pub ports_back : (ports : List Port) (k : ℕ) (p : Port) → k < length ports → p ≡ get_or ports k p → drop k ports ≡ p ∷ drop (k + 1) ports
 ports_back ports k p lt e =
     let next : suc k ≡ k + 1 = omega arith in
@@ -128,8 +112,9 @@ one_from : (a : ℕ) (ports : List Port) → StandFrom a ports → AllByRecursio
 one_from a [] h = tt
 one_from a (p ∷ ps) h = (h.0 ∙ ap (λ b. b ∷ []) (sym (ap (λ bits. get_or bits 0 0) h.0)), one_from (a + 1) ps h.1)
 
-pub one_bits : (net : PlainNet) → WellFormed net → IsLikeSimple net → AllByRecursion (λ p. p.bits ≡ bit_of p ∷ []) net.ports
-one_bits net well like = one_from 0 net.ports (stand net.wires 0 net.ports (λ n q at. well.ports_right.bits_named n q at) like.2.no_range like.2.ports_first)
+pub one_bits : (net : PlainNet) → WellFormed net → IsLikeSimple net → AllByRecursion (λ p. p.bits ≡ bit_of p ∷ []) (data_ports net)
+one_bits net well like =
+    data_all (λ p. p.bits ≡ bit_of p ∷ []) net (one_from 0 net.ports (stand net.wires 0 net.ports (λ n q at. well.ports_right.bits_named n q at) like.2.no_range like.2.ports_first))
 
 -- what holds of the bit of each port holds of each of their bits
 pub of_each_bit : (P : ℕ → Type 0) (ports : List Port) → AllByRecursion (λ p. p.bits ≡ bit_of p ∷ []) ports → AllByRecursion (λ p. P (bit_of p)) ports
@@ -142,26 +127,30 @@ of_each_bit P (p ∷ ps) ones h w some =
       | inr there ↦ of_each_bit P ps ones.1 h.1 w there
     ]
 
--- the facts of port k of these ports
+-- the facts of port k of these ports, among those that are not the clock's
 pub record FactsAt (net : PlainNet) (ports : List Port) (k : ℕ) (p : Port) : Type 0 where
   pub bit : bit_of p ≡ k
   pub within : k < length net.wires
   pub written : IsWritable p.name
-  pub names : AllByRecursion (λ q. q.name ≢ p.name) (take k ports)
-  pub lower : AllByRecursion (λ q. bit_of q < k) (take k ports)
-  pub after : AllByRecursion (λ q. q.name ≢ p.name) (drop (k + 1) ports)
+  pub names : AllByRecursion (λ q. q.name ≢ p.name) (data_from net.clock 0 (take k ports))
+  pub lower : AllByRecursion (λ q. bit_of q < k) (data_from net.clock 0 (take k ports))
+  pub after : AllByRecursion (λ q. q.name ≢ p.name) (data_from net.clock (k + 1) (drop (k + 1) ports))
+  pub apart : is_input p ≡ false → net.clock ≢ Some k
 
 pub facts_at : (net : PlainNet) (ports : List Port) (k : ℕ) (p : Port) → WellFormed net → IsLikeSimple net → ports ≡ net.ports → k < length ports → p ≡ get_or ports k p → FactsAt net ports k p
 facts_at net ports k p well like same lt at =
-    let facts = port_facts net k p well like (ap (λ ps. slice_get ps k) (sym same) ∙ port_at ports k p lt at) in
+    let found = ap (λ ps. slice_get ps k) (sym same) ∙ port_at ports k p lt at in
+    let facts = port_facts net k p well like found in
+    let P : Port → Type 0 = λ q. (q.name ≢ p.name) × (bit_of q < k) in
     subst (λ ps. FactsAt net ps k p) (sym same)
     (record {
       bit = ap (λ bits. get_or bits 0 0) facts.bits;
       within = facts.within;
       written = facts.written;
-      names = all_from (λ q. (q.name ≢ p.name) × (bit_of q < k)) (λ q. q.name ≢ p.name) (λ q h. h.0) (take k net.ports) facts.before;
-      lower = all_from (λ q. (q.name ≢ p.name) × (bit_of q < k)) (λ q. bit_of q < k) (λ q h. h.1) (take k net.ports) facts.before;
-      after = facts.after;
+      names = all_data (λ q. q.name ≢ p.name) net.clock 0 (take k net.ports) (all_from P (λ q. q.name ≢ p.name) (λ q h. h.0) (take k net.ports) facts.before);
+      lower = all_data (λ q. bit_of q < k) net.clock 0 (take k net.ports) (all_from P (λ q. bit_of q < k) (λ q h. h.1) (take k net.ports) facts.before);
+      after = all_data (λ q. q.name ≢ p.name) net.clock (k + 1) (drop (k + 1) net.ports) facts.after;
+      apart = output_apart net well k p found;
     })
 
 pub input_way : (way : Way) → is_in way ≡ true → way ≡ Input
@@ -172,11 +161,54 @@ pub output_way : (way : Way) → is_in way ≡ false → way ≡ Output
 output_way Input h = absurd (let r : true ≡ false = h in cc)
 output_way Output h = refl
 
--- the input ports from a place on
-pub rest_yes : (ports : List Port) (k : ℕ) (p : Port) → k < length ports → p ≡ get_or ports k p → is_input p ≡ true → filter is_input (drop k ports) ≡ p ∷ filter is_input (drop (k + 1) ports)
-rest_yes ports k p lt at is =
-    ap (filter is_input) (ports_back ports k p lt at) ∙ ap (λ b. cond b (p ∷ filter is_input (drop (k + 1) ports)) (filter is_input (drop (k + 1) ports))) is
+-- the ports before place k + 1, and those from place k on
+module _ (clock : Option ℕ) (ports : List Port) (k : ℕ) (p : Port) (lt : k < length ports) (at : p ≡ get_or ports k p) where
+  front : data_from clock 0 (take (k + 1) ports) ≡ data_from clock 0 (take k ports) ++ cond (is_clock clock k) [] (p ∷ [])
+  front =
+      let long = length-take-le k ports (omega arith) in
+      let number : 0 + length (take k ports) ≡ k = omega (arith, long) in
+      ap (data_from clock 0) (ports_front ports k p lt at)
+      ∙ (data_joined clock 0 (take k ports) (p ∷ []) ∙ ap (λ n. data_from clock 0 (take k ports) ++ data_from clock n (p ∷ [])) number)
 
-pub rest_no : (ports : List Port) (k : ℕ) (p : Port) → k < length ports → p ≡ get_or ports k p → is_input p ≡ false → filter is_input (drop k ports) ≡ filter is_input (drop (k + 1) ports)
-rest_no ports k p lt at is =
-    ap (filter is_input) (ports_back ports k p lt at) ∙ ap (λ b. cond b (p ∷ filter is_input (drop (k + 1) ports)) (filter is_input (drop (k + 1) ports))) is
+  back : data_from clock k (drop k ports) ≡ cond (is_clock clock k) (data_from clock (k + 1) (drop (k + 1) ports)) (p ∷ data_from clock (k + 1) (drop (k + 1) ports))
+  back = ap (data_from clock k) (ports_back ports k p lt at)
+
+  pub front_more : is_clock clock k ≡ false → data_from clock 0 (take (k + 1) ports) ≡ data_from clock 0 (take k ports) ++ p ∷ []
+  front_more other = front ∙ ap (λ b. data_from clock 0 (take k ports) ++ cond b [] (p ∷ [])) other
+
+  pub front_same : is_clock clock k ≡ true → data_from clock 0 (take (k + 1) ports) ≡ data_from clock 0 (take k ports)
+  front_same here = front ∙ (ap (λ b. data_from clock 0 (take k ports) ++ cond b [] (p ∷ [])) here ∙ append-nil (data_from clock 0 (take k ports)))
+
+  pub back_more : is_clock clock k ≡ false → data_from clock k (drop k ports) ≡ p ∷ data_from clock (k + 1) (drop (k + 1) ports)
+  back_more other = back ∙ ap (λ b. cond b (data_from clock (k + 1) (drop (k + 1) ports)) (p ∷ data_from clock (k + 1) (drop (k + 1) ports))) other
+
+  pub back_same : is_clock clock k ≡ true → data_from clock k (drop k ports) ≡ data_from clock (k + 1) (drop (k + 1) ports)
+  back_same here = back ∙ ap (λ b. cond b (data_from clock (k + 1) (drop (k + 1) ports)) (p ∷ data_from clock (k + 1) (drop (k + 1) ports))) here
+
+  -- one input port more, and one that is none
+  pub filter_yes : is_data_input clock (k, p) ≡ true → filter is_input (data_from clock 0 (take (k + 1) ports)) ≡ filter is_input (data_from clock 0 (take k ports)) ++ p ∷ []
+  filter_yes h =
+      let parts = and_parts (is_input p) (not (is_clock clock k)) h in
+      ap (filter is_input) (front_more (not-true (is_clock clock k) parts.1))
+      ∙ (filter-append is_input (data_from clock 0 (take k ports)) (p ∷ []) ∙ ap (λ b. filter is_input (data_from clock 0 (take k ports)) ++ cond b (p ∷ []) []) parts.0)
+
+  pub filter_no : is_data_input clock (k, p) ≡ false → filter is_input (data_from clock 0 (take (k + 1) ports)) ≡ filter is_input (data_from clock 0 (take k ports))
+  filter_no h = elim (cases_Bool (is_clock clock k)) [
+    | inl here ↦ ap (filter is_input) (front_same here)
+    | inr other ↦
+        (let out : is_input p ≡ false = false_from_ne_true (is_input p) (λ is. both_ways (is_data_input clock (k, p)) h (and_from (is_input p) (not (is_clock clock k)) is (not_from_false (is_clock clock k) other))) in
+        ap (filter is_input) (front_more other)
+        ∙ (filter-append is_input (data_from clock 0 (take k ports)) (p ∷ [])
+        ∙ (ap (λ b. filter is_input (data_from clock 0 (take k ports)) ++ cond b (p ∷ []) []) out ∙ append-nil (filter is_input (data_from clock 0 (take k ports))))))
+  ]
+
+  -- the input ports from a place on
+  pub rest_yes : is_clock clock k ≡ false → is_input p ≡ true → filter is_input (data_from clock k (drop k ports)) ≡ p ∷ filter is_input (data_from clock (k + 1) (drop (k + 1) ports))
+  rest_yes other is =
+      let rest = filter is_input (data_from clock (k + 1) (drop (k + 1) ports)) in
+      ap (filter is_input) (back_more other) ∙ ap (λ b. cond b (p ∷ rest) rest) is
+
+  pub rest_no : is_clock clock k ≡ false → is_input p ≡ false → filter is_input (data_from clock k (drop k ports)) ≡ filter is_input (data_from clock (k + 1) (drop (k + 1) ports))
+  rest_no other is =
+      let rest = filter is_input (data_from clock (k + 1) (drop (k + 1) ports)) in
+      ap (filter is_input) (back_more other) ∙ ap (λ b. cond b (p ∷ rest) rest) is

@@ -5,8 +5,9 @@ use Rattle.std.proofs.lemmas.Bool.{and_parts, or_cases, eqb-true, or_left, or_ri
 use Rattle.std.proofs.lemmas.List.FromFn.{length-range_with_len}
 use Rattle.agm_net.proofs.Named.{length-names}
 use Rattle.agm_net.specs.Loop.{HasNoLoop}
-use Rattle.agm_net.specs.Plain.{PlainNet, Line, line_of, bit_names}
-use Rattle.agm_net.specs.Simple.{IsSimple, InOrder, with_lines, IsSmallNet}
+use Rattle.agm_net.specs.Plain.{PlainNet, Line, data_ports, line_of, bit_names}
+use Rattle.agm_net.specs.Small.{InOrder, IsSmallNet}
+use Rattle.simple_masking.specs.Simple.{IsSimple, with_lines}
 use Rattle.agm_net.specs.Trace.{Row, IsTrace, Holds, bit_at}
 use Rattle.agm_net.specs.WellFormed.{WellFormed}
 use Rattle.agm_net.specs.declared.expr.Equation.{Equation}
@@ -23,6 +24,7 @@ use Rattle.share_wiring.proofs.Drivers.{fresh_lines, lines_fit}
 use Rattle.share_wiring.proofs.Lists.{all_from}
 use Rattle.share_wiring.proofs.Loops.{IsFresh}
 use Rattle.simple_masking.specs.Shared.{shares_of, is_input_bit, Stands, Follows, HasPorts, IsMaskOf, first_ports}
+use Rattle.simple_masking.proofs.DataPorts.{data_input}
 use Rattle.simple_masking.proofs.Entering.{are_changed}
 use Rattle.simple_masking.proofs.NewPorts.{Begins, bits_begin}
 use Rattle.agm_net.specs.Formula.{Formula, f_zero, f_one, f_wire, f_not, f_and, f_or, f_xor, f_mux, reads_below}
@@ -76,7 +78,7 @@ product_facts net marks target left right well is simple =
     let lines : List Line = (target, f_and (f_wire left) (f_wire right)) ∷ [] in
     let reads : InOrder (is_input_bit net) lines = simple.in_order in
     let order : InOrder (is_input_bit net) net.lines = subst (InOrder (is_input_bit net)) (sym is) reads in
-    let fresh : IsFresh (is_input_bit net) lines = subst (IsFresh (is_input_bit net)) is (fresh_lines net well order) in
+    let fresh : IsFresh (is_input_bit net) lines = subst (IsFresh (is_input_bit net)) is (fresh_lines net (is_input_bit net) well (data_input net) order) in
     let fits = subst (AllByRecursion (λ l. (l.0 < length net.wires) × IsTrue (reads_below (length net.wires) l.1))) is (lines_fit net well) in
     let below = and_parts (nat_lt left (length net.wires)) (nat_lt right (length net.wires)) fits.0.1 in
     record {
@@ -152,7 +154,7 @@ pub is_product_mask : (original masked : PlainNet) (n random target left right :
     → original.lines ≡ (target, f_and (f_wire left) (f_wire right)) ∷ [] → ProductFacts original target left right
     → masked ≡ net_of net → HasNoLoop masked → IsSmallNet masked
     → ((power : Row) (tape rows : List Row) → IsTrace masked power tape rows → IsRun net.wires (length rows) (bit_at rows))
-    → HasPorts n (first_ports random) net table original.ports → AddsFact multiplied net (λ cycles bits. Unit {0})
+    → HasPorts n (first_ports random) net table (data_ports original) → AddsFact multiplied net (λ cycles bits. Unit {0})
     → a ≡ shares_of before left → b ≡ shares_of before right → shares_of table target ≡ z → ((w : ℕ) → w ≢ target → shares_of table w ≡ shares_of before w)
     → ((cycles : ℕ) (bits : ℕ → ℕ → Bool) → IsRun multiplied.wires cycles bits → (t : ℕ) → t + 2 < cycles → recombined n (bits (t + 2)) z ≡ recombined n (bits t) a && recombined n (bits t) b)
     → IsMaskOf original n random 2 masked
@@ -163,7 +165,7 @@ is_product_mask original masked n random target left right multiplied net before
   clock = ap (λ (m : PlainNet). m.clock) is;
   no_loop = no_loop;
   small = small;
-  shared = are_changed n (Stands net.wires table) (Follows masked (shares_of table)) original.ports has.made (every original.ports) has.shared;
+  shared = are_changed n (Stands net.wires table) (Follows masked (shares_of table)) (data_ports original) has.made (every (data_ports original)) has.shared;
   solves = λ power tape rows trace t lt.
       let run = runs power tape rows trace in
       let kept = (adds (length rows) (bit_at rows) run).0 in

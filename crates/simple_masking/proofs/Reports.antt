@@ -1,9 +1,9 @@
 -- Reports.
 use Rattle.std.proofs.Common.{◌≡◌, ◌+◌, ◌*◌, ◌/◌, ℕ, List, [], ◌∷◌, map, refl, sym, ap, subst, arith}
-use Rattle.agm_net.specs.Plain.{PlainNet}
+use Rattle.agm_net.specs.Plain.{PlainNet, data_ports}
 use Rattle.agm_net.specs.declared.port.Port.{Port}
 use Rattle.agm_net.specs.Formula.{f_wire, f_and, f_xor}
-use Rattle.agm_net.specs.Simple.{IsSimple, with_lines}
+use Rattle.simple_masking.specs.Simple.{IsSimple, with_lines}
 use Rattle.agm_net.specs.WellFormed.{WellFormed}
 use Rattle.agm_net.specs.declared.mark.Mark.{Mark}
 use Rattle.share_wiring.specs.ReportOf.{ReportOf, IsShared, SharedNames, none, shared, public}
@@ -42,7 +42,7 @@ module _ (d : ℕ) (base : PlainNet) (marks : List Mark) (target left right : �
     one_driver = w.one_driver;
   }
 
-  product_reported : WellFormed multiplied → IsSimple added marks → ReportOf multiplied marks d Naive Pipe 1 2 (report_with d 1 (map (λ p. p.name) base.ports))
+  product_reported : WellFormed multiplied → IsSimple added marks → ReportOf multiplied marks d Naive Pipe 1 2 (report_with d 1 (map (λ p. p.name) (data_ports base)))
   product_reported w simple =
       let plain = simple_reported d added marks (added_well w) simple in
       record {
@@ -55,13 +55,13 @@ module _ (d : ℕ) (base : PlainNet) (marks : List Mark) (target left right : �
         period_is = refl;
         streams_are = refl;
         registers_are = λ secrets tells. plain.registers_are secrets (record { one_each = tells.one_each; tells = tells.tells });
-        ports_are = shared_moved multiplied added marks base.ports marks (map (λ p. p.name) base.ports) (λ p m h. h) (λ p m h. h) plain.ports_are;
+        ports_are = shared_moved multiplied added marks base.ports marks (map (λ p. p.name) (data_ports base)) (λ p m h. h) (λ p m h. h) plain.ports_are;
       }
 
 -- the report of a net of one product
 pub product_report : (d : ℕ) (net : PlainNet) (marks : List Mark) (target left right : ℕ) → WellFormed net → net.lines ≡ (target, f_and (f_wire left) (f_wire right)) ∷ []
-    → IsSimple (with_lines ((target, f_xor (f_wire left) (f_wire right)) ∷ []) net) marks → ReportOf net marks d Naive Pipe 1 2 (report_with d 1 (map (λ p. p.name) net.ports))
+    → IsSimple (with_lines ((target, f_xor (f_wire left) (f_wire right)) ∷ []) net) marks → ReportOf net marks d Naive Pipe 1 2 (report_with d 1 (map (λ p. p.name) (data_ports net)))
 product_report d net marks target left right w is simple =
     let same : net ≡ with_lines ((target, f_and (f_wire left) (f_wire right)) ∷ []) net = ap (λ ls. with_lines ls net) is in
-    subst (λ m. ReportOf m marks d Naive Pipe 1 2 (report_with d 1 (map (λ p. p.name) net.ports))) (sym same)
+    subst (λ m. ReportOf m marks d Naive Pipe 1 2 (report_with d 1 (map (λ p. p.name) (data_ports net)))) (sym same)
     (product_reported d net marks target left right (subst WellFormed same w) simple)

@@ -1,12 +1,11 @@
 -- A masked net computes the original.
-use Rattle.std.proofs.Common.{◌≡◌, ◌<◌, ◌+◌, ◌*◌, ◌/◌, ◌==◌, ◌++◌, ℕ, zero, suc, Bool, false, cond, List, [], ◌∷◌, length, map, filter, slice_get, IsTrue, Some, None, codes, refl, sym, ap, ap₂, subst, inl, inr, ◌∙◌, arith, add-one, flat_map}
+use Rattle.std.proofs.Common.{◌≡◌, ◌<◌, ◌+◌, ◌*◌, ◌/◌, ◌==◌, ◌++◌, ℕ, zero, suc, Bool, false, cond, List, [], ◌∷◌, length, map, filter, slice_get, IsTrue, Some, None, codes, refl, sym, ap, ap₂, subst, inl, inr, ◌∙◌, arith, add-one, zero-add, flat_map}
 use Rattle.std.specs.List.{AllByRecursion, list_any, range_with_len}
-use Rattle.std.proofs.lemmas.Bool.{cases_Bool, cond-true, ne_eqb}
+use Rattle.std.proofs.lemmas.Bool.{both_ways, cases_Bool, cond-true, false_from_ne_true, ne_eqb}
 use Rattle.std.proofs.lemmas.List.{map-append}
-use Rattle.std.proofs.lemmas.Option.{slice_get_within}
-use Rattle.agm_net.specs.Plain.{PlainNet, is_in, is_input, input_bits, data_ports, bit_names}
+use Rattle.agm_net.specs.Plain.{PlainNet, is_in, is_input, input_bits, data_ports}
 use Rattle.agm_net.specs.Role.{share_name, state_name}
-use Rattle.agm_net.specs.Simple.{InOrder}
+use Rattle.agm_net.specs.Small.{InOrder}
 use Rattle.agm_net.specs.Trace.{Row, IsTrace, Holds, bit_at}
 use Rattle.agm_net.specs.WellFormed.{WellFormed}
 use Rattle.agm_net.specs.declared.mark.Mark.{Mark}
@@ -20,14 +19,14 @@ use Rattle.share_wiring.specs.Schedule.{input_values}
 use Rattle.share_wiring.specs.Shape.{Shape, header_of, indices, input_of_width, one_input, masked_headers}
 use Rattle.share_wiring.specs.Wiring.{share}
 use Rattle.share_wiring.specs.declared.report.Report.{Report}
-use Rattle.share_wiring.proofs.Drivers.{wires_agree}
+use Rattle.share_wiring.proofs.Drivers.{is_bit_in, line_agree}
 use Rattle.simple_masking.proofs.FirstWires.{StandFrom, stand}
-use Rattle.share_wiring.proofs.Lists.{all_front, all_back, all_below, all_both, all_of_one, agree_at, flat_map_filtered, flat_map_nothing, map_flat_map}
+use Rattle.share_wiring.proofs.Lists.{all_front, all_back, all_below, all_both, agree_at, flat_map_filtered, flat_map_nothing, map_flat_map}
 use Rattle.share_wiring.proofs.Ports.{OwnBits, own_bits, each_named, rows_recombine}
-use Rattle.simple_masking.proofs.Secrets.{all_are_data}
+use Rattle.simple_masking.proofs.DataPorts.{data_all, data_cases, data_input, data_one, output_apart}
 use Rattle.share_wiring.proofs.Unique.{one_solution}
 use Rattle.simple_masking.specs.Shared.{one_bit, share_ports, bit_of, is_input_bit, ArePorts, IsLikeSimple, IsMaskOf, Follows, first_ports, report_with}
-use Rattle.simple_masking.proofs.PortFacts.{one_bits, stand_at}
+use Rattle.simple_masking.proofs.PortFacts.{one_bits, port_facts}
 
 -- the headers of the ports of shares
 share_headers : (name : List ℕ) (way : Way) (wire : ℕ → ℕ) (a n : ℕ)
@@ -65,14 +64,6 @@ earlier_no_bit a w (p ∷ ps) lt h =
       | inr left ↦ rw left later
     ]
 
--- a bit with a name is a wire
-first_within : (wires : List (List ℕ)) (bits : List ℕ) (w : ℕ) (names : List (List ℕ)) → bits ≡ w ∷ [] → map (slice_get wires) bits ≡ map (λ name. Some name) names → w < length wires
-first_within wires bits w [] is found = let no : slice_get wires w ∷ [] ≡ [] = sym (ap (map (slice_get wires)) is) ∙ found in absurd (cc)
-first_within wires bits w (name ∷ names) is found =
-    let all : slice_get wires w ∷ [] ≡ Some name ∷ map (λ n. Some n) names = sym (ap (map (slice_get wires)) is) ∙ found in
-    let at : slice_get wires w ≡ Some name = cc in
-    slice_get_within wires w name at
-
 -- the bit of an output is no input bit
 output_no_input : (a : ℕ) (ports : List Port) (m : ℕ) (p : Port) → StandFrom a ports → slice_get ports m ≡ Some p → is_input p ≡ false
     → list_any (λ b. b == a + m) (flat_map (λ q. q.bits) (filter is_input ports)) ≡ false
@@ -94,19 +85,15 @@ output_no_input a (q ∷ qs) (suc m) p h at out =
 module _ (original net : PlainNet) (d gadgets : ℕ) (well : WellFormed original) (like : IsLikeSimple original) (fine : WellFormed net)
     (mask : IsMaskOf original (d + 1) (gadgets * d * (d + 1) / 2) (2 * gadgets) net) where
   abbrev report : Report
-  report = report_with d gadgets (map (λ p. p.name) original.ports)
-
-  no_clock : original.clock ≡ None
-  no_clock = like.2.no_clock
+  report = report_with d gadgets (map (λ p. p.name) (data_ports original))
 
   shape : Shape original report net
   shape = record {
     headers = ap (map header_of) mask.ports
         ∙ (first_headers (gadgets * d * (d + 1) / 2) mask.made
         ∙ ap (λ hs. one_input (codes "agm_clk") ∷ one_input (codes "agm_load") ∷ (input_of_width (codes "agm_r") (gadgets * d * (d + 1) / 2) ++ hs))
-        (made_headers report (Follows net mask.shares) original.ports mask.made like.2.no_range (each_named original.ports) mask.shared
-        ∙ (ap (flat_map (masked_headers report)) (sym (all_are_data original no_clock))
-        ∙ sym (ap (λ hs. hs ++ flat_map (masked_headers report) (data_ports original)) (flat_map_nothing (λ i. input_of_width (state_name i) 0) (indices d) (λ i. refl))))));
+        (made_headers report (Follows net mask.shares) (data_ports original) mask.made (data_all (λ p. p.range ≡ None) original like.2.no_range) (each_named (data_ports original)) mask.shared
+        ∙ sym (ap (λ hs. hs ++ flat_map (masked_headers report) (data_ports original)) (flat_map_nothing (λ i. input_of_width (state_name i) 0) (indices d) (λ i. refl)))));
     clock = mask.clock;
   }
 
@@ -136,63 +123,57 @@ module _ (original net : PlainNet) (d gadgets : ℕ) (well : WellFormed original
         ∙ (rows_recombine d (λ w i. bit (share (mask.shares w) i)) p.bits (λ i. port_value net (share_name i p.name) bit) (λ i lt. rows i (omega arith))
         ∙ ap (λ n. map (λ w. xor_below n (λ i. bit (share (mask.shares w) i))) p.bits) (sym (add-one d)))
 
-    values : ArePorts (d + 1) at original.ports mask.made → AllByRecursion (λ p. masked_value net report p.name bit ≡ map (worth_of bit) p.bits) original.ports
+    values : ArePorts (d + 1) at (data_ports original) mask.made → AllByRecursion (λ p. masked_value net report p.name bit ≡ map (worth_of bit) p.bits) (data_ports original)
     values are =
         let own = own_bits net.ports fine.ports_right.ports_differ in
         let mine : AllByRecursion (OwnBits net.ports) mask.made = all_back (OwnBits net.ports) (first_ports (gadgets * d * (d + 1) / 2)) mask.made (subst (AllByRecursion (OwnBits net.ports)) mask.ports own) in
         all_both (λ p. IsTrue (is_shared report p.name)) (λ p. (i : ℕ) → i < d + 1 → port_value net (share_name i p.name) bit ≡ map (λ w. bit (share (mask.shares w) i)) p.bits)
-        (λ p. masked_value net report p.name bit ≡ map (worth_of bit) p.bits) (λ p shared rows. port_values p shared rows) original.ports (each_named original.ports)
-        (share_values original.ports mask.made (one_bits original well like) mine are)
+        (λ p. masked_value net report p.name bit ≡ map (worth_of bit) p.bits) (λ p shared rows. port_values p shared rows) (data_ports original) (each_named (data_ports original))
+        (share_values (data_ports original) mask.made (one_bits original well like) mine are)
 
   -- in each cycle of a trace a port has what its bits are worth
   trace_values : (power : Row) (tape table : List Row) → IsTrace net power tape table → (t : ℕ) → t < length table
-      → AllByRecursion (λ p. masked_value net report p.name (bit_at table t) ≡ map (worth_of (bit_at table t)) p.bits) original.ports
+      → AllByRecursion (λ p. masked_value net report p.name (bit_at table t) ≡ map (worth_of (bit_at table t)) p.bits) (data_ports original)
   trace_values power tape table trace t lt =
       values (bit_at table t) (Follows net mask.shares) (λ p i w h. h power tape table trace t lt) mask.shared
 
   -- what the masked net has for the original's inputs is what the input bits are worth
-  inputs_are : (bit : ℕ → Bool) → AllByRecursion (λ p. masked_value net report p.name bit ≡ map (worth_of bit) p.bits) original.ports
-      → input_values original report net bit ≡ map (worth_of bit) (flat_map (λ p. p.bits) (filter is_input original.ports))
+  inputs_are : (bit : ℕ → Bool) → AllByRecursion (λ p. masked_value net report p.name bit ≡ map (worth_of bit) p.bits) (data_ports original)
+      → input_values original report net bit ≡ map (worth_of bit) (input_bits original)
   inputs_are bit all =
-      let own = λ (p : Port). masked_value net report p.name bit in
-      ap (λ ps. flat_map own (filter is_input ps)) (all_are_data original no_clock)
-      ∙ (flat_map_filtered own (λ p. map (worth_of bit) p.bits) is_input original.ports all
-      ∙ sym (map_flat_map (worth_of bit) (λ p. p.bits) (filter is_input original.ports)))
+      flat_map_filtered (λ (p : Port). masked_value net report p.name bit) (λ p. map (worth_of bit) p.bits) is_input (data_ports original) all
+      ∙ sym (map_flat_map (worth_of bit) (λ p. p.bits) (filter is_input (data_ports original)))
 
   -- an output, read so many cycles after the inputs, has the original's value
-  output_is : original.registers ≡ [] → InOrder (is_input_bit original) original.lines → (power : Row) (tape table : List Row) → IsTrace net power tape table
+  output_is : InOrder (is_input_bit original) original.lines → (power : Row) (tape table : List Row) → IsTrace net power tape table
       → (t : ℕ) → t + 2 * gadgets < length table → (bit : ℕ → Bool) → Holds bit original.lines → input_values original report net (bit_at table t) ≡ map bit (input_bits original)
       → (m : ℕ) (p : Port) → slice_get original.ports m ≡ Some p → p.way ≡ Output → masked_value net report p.name (bit_at table (t + 2 * gadgets)) ≡ map bit p.bits
-  output_is plain order power tape table trace t lt bit holds given m p at out =
+  output_is order power tape table trace t lt bit holds given m p at out =
       let now : t < length table = omega (arith, lt) in
       let late = t + 2 * gadgets in
       let x : ℕ → Bool = λ w. recombined (d + 1) (bit_at table (cond (is_input_bit original w) t late)) (mask.shares w) in
-      let bits_in = flat_map (λ q. q.bits) (filter is_input original.ports) in
-      let inputs : map (worth_of (bit_at table t)) bits_in ≡ map bit bits_in =
-      sym (inputs_are (bit_at table t) (trace_values power tape table trace t now))
-      ∙ (given ∙ ap (λ ps. map bit (flat_map (λ q. q.bits) (filter is_input ps))) (all_are_data original no_clock)) in
+      let inputs : map (worth_of (bit_at table t)) (input_bits original) ≡ map bit (input_bits original) = sym (inputs_are (bit_at table t) (trace_values power tape table trace t now)) ∙ given in
       let agree : (w : ℕ) → IsTrue (is_input_bit original w) → x w ≡ bit w =
-      λ w h. ap (λ b. recombined (d + 1) (bit_at table (cond b t late)) (mask.shares w)) h ∙ agree_at (worth_of (bit_at table t)) bit bits_in inputs w h in
+      λ w h. ap (λ b. recombined (d + 1) (bit_at table (cond b t late)) (mask.shares w)) h ∙ agree_at (worth_of (bit_at table t)) bit (input_bits original) inputs w h in
       let lines = one_solution (is_input_bit original) original.lines x bit order (mask.solves power tape table trace t lt) holds agree in
-      let one = all_of_one (λ q. q.bits ≡ bit_of q ∷ []) original.ports m p (one_bits original well like) at in
       let stands = stand original.wires 0 original.ports (λ n q e. well.ports_right.bits_named n q e) like.2.no_range like.2.ports_first in
-      let bits : p.bits ≡ (0 + m) ∷ [] = stand_at 0 original.ports m p stands at in
-      let none : is_input_bit original (0 + m) ≡ false = output_no_input 0 original.ports m p stands at (ap is_in out) in
-      let found : map (slice_get original.wires) p.bits ≡ map (λ name. Some name) (bit_names p.name p.range) = well.ports_right.bits_named m p at in
-      let within : 0 + m < length original.wires = first_within original.wires p.bits (0 + m) (bit_names p.name p.range) bits found in
-      let same : x (0 + m) ≡ bit (0 + m) = wires_agree original x bit well plain agree lines (0 + m) within in
-      let here : worth_of (bit_at table late) (0 + m) ≡ bit (0 + m) = ap (λ b. recombined (d + 1) (bit_at table (cond b t late)) (mask.shares (0 + m))) (sym none) ∙ same in
-      all_of_one (λ q. masked_value net report q.name (bit_at table late) ≡ map (worth_of (bit_at table late)) q.bits) original.ports m p (trace_values power tape table trace late lt) at
-      ∙ (ap (map (worth_of (bit_at table late))) bits ∙ (ap (λ b. b ∷ []) here ∙ ap (map bit) (sym bits)))
+      let facts = port_facts original m p well like at in
+      let apart = output_apart original well m p at (ap is_in out) in
+      let no_bit : is_bit_in original m ≡ false = subst (λ w. is_bit_in original w ≡ false) (zero-add m) (output_no_input 0 original.ports m p stands at (ap is_in out)) in
+      let none : is_input_bit original m ≡ false = false_from_ne_true (is_input_bit original m) (λ h. both_ways (is_bit_in original m) no_bit (data_input original m h)) in
+      let same : x m ≡ bit m = data_cases original (x m ≡ bit m) well like m facts.within apart (agree m) (line_agree x bit original.lines m lines) in
+      let here : worth_of (bit_at table late) m ≡ bit m = ap (λ b. recombined (d + 1) (bit_at table (cond b t late)) (mask.shares m)) (sym none) ∙ same in
+      data_one (λ q. masked_value net report q.name (bit_at table late) ≡ map (worth_of (bit_at table late)) q.bits) original m p (trace_values power tape table trace late lt) at apart
+      ∙ (ap (map (worth_of (bit_at table late))) facts.bits ∙ (ap (λ b. b ∷ []) here ∙ ap (map bit) (sym facts.bits)))
 
-  pub is_same : (marks : List Mark) → original.registers ≡ [] → InOrder (is_input_bit original) original.lines → Same original marks report net
-  is_same marks plain order = record {
+  pub is_same : (marks : List Mark) → InOrder (is_input_bit original) original.lines → Same original marks report net
+  is_same marks order = record {
     shape = shape;
     no_loop = mask.no_loop;
     outputs = λ power tape table secrets streams steps trace tells drives s k row in_streams in_steps first n p at out.
         let t = 1 + s + (2 * gadgets + 1) * k in
         let read : t + 2 * gadgets < length table = drives.is_read s k in_streams in_steps in
         let long : k < length row = (let a = first.as_long in let b = drives.as_long s in_streams in omega (arith, a, b, in_steps)) in
-        output_is plain order power tape table trace t read (bit_at row k) (first.equations_hold k long)
+        output_is order power tape table trace t read (bit_at row k) (first.equations_hold k long)
         (drives.inputs s k t in_streams in_steps refl ∙ sym (first.inputs_given k long)) n p at out;
   }

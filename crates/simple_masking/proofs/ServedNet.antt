@@ -1,16 +1,19 @@
 -- The test of a net that is masked so far decides whether it is one.
-use Rattle.std.proofs.Common.{◌≡◌, ◌≢◌, ◌<◌, ◌+◌, ◌==◌, ◌++◌, ◌∷◌, ◌&&◌, ◌||◌, ◌⊎◌, ℕ, zero, suc, Bool, true, false, not, List, [], Option, Some, None, length, map, filter, fold, replicate, slice_get, codes, nat_eq, IsTrue, ◌↔◌, refl, sym, ap, subst, inl, inr, ◌∙◌, arith, eq-eqb, flat_map}
+use Rattle.std.proofs.Common.{◌≡◌, ◌≢◌, ◌<◌, ◌+◌, ◌==◌, ◌++◌, ◌∷◌, ◌&&◌, ◌||◌, ◌⊎◌, ℕ, zero, suc, Bool, true, false, not, List, [], Option, Some, None, length, map, filter, fold, replicate, slice_get, codes, nat_eq, IsTrue, ◌↔◌, refl, sym, ap, subst, inl, inr, ◌∙◌, arith, append-nil, eq-eqb, flat_map}
 use Rattle.std.specs.Prelude.{is_none}
-use Rattle.std.specs.List.{AllByRecursion, list_all, list_any, zip, starts_with, range_with_len}
+use Rattle.std.specs.List.{AllByRecursion, list_all, list_any, zip, enumerate_from, starts_with, range_with_len}
 use Rattle.std.proofs.Math.ListN.{length-set}
 use Rattle.std.proofs.lemmas.Bool.{and_parts, and_from, cases_Bool, cases_eq, cases_order, eqb-true, ltb-true, ne_eqb, not-true, not_from_false, or_cases, or_left, or_right}
 use Rattle.std.proofs.lemmas.List.{get_or-set_same, get_or-set_other, length-replicate, get_or-replicate}
 use Rattle.std.proofs.lemmas.List.Folds.{list_any-append}
+use Rattle.std.proofs.lemmas.List.Sums.{fold-append}
+use Rattle.std.proofs.lemmas.Grind.{flat_map-append}
 use Rattle.std.proofs.lemmas.Option.{slice_get_within}
 use Rattle.agm_net.specs.Formula.{Formula, f_one, f_wire, f_not, f_and, f_or, f_xor, f_mux, reads_below}
-use Rattle.agm_net.specs.Plain.{Line, PlainNet, line_of, stored_of, is_in, is_input, bit_names}
+use Rattle.agm_net.specs.Plain.{Line, PlainNet, input_bits, line_of, stored_of, is_in, is_input, bit_names}
 use Rattle.agm_net.specs.PlainForm.{IsOneOperator, IsNextOf, IsPlain, RangeFits}
-use Rattle.agm_net.specs.Simple.{IsLinear, ReadsKnown, InOrder, IsMarked, IsSimple, with_lines}
+use Rattle.agm_net.specs.Small.{ReadsKnown, InOrder}
+use Rattle.simple_masking.specs.Simple.{IsLinear, IsMarked, IsSimple, with_lines, IsServed}
 use Rattle.agm_net.specs.View.{plain_of}
 use Rattle.agm_net.specs.WellFormed.{WellFormed}
 use Rattle.agm_net.specs.Writable.{IsWritable}
@@ -26,8 +29,9 @@ use Rattle.share_wiring.proofs.Lists.{all_from}
 use Rattle.share_wiring.specs.Gates.{gate_of}
 use Rattle.share_wiring.specs.declared.gate.Gate.{Gate}
 use Rattle.share_wiring.specs.declared.gate.Gate.TheVariants.{Zero, One, Same, Not, And, Or, Xor, Mux}
-use Rattle.simple_masking.specs.ServedNet.{IsServed, is_right_mark, is_free_port, is_only, stand_from, are_ports_served, flagged, flags_of, is_set, is_linear_of, are_linear, is_output_bit, is_alone_served, are_lines_served}
-use Rattle.simple_masking.specs.Shared.{IsLikeSimple, is_input_bit}
+use Rattle.simple_masking.specs.ServedNet.{is_right_mark, is_free_port, is_only, stand_from, are_right_marks, has_data_input, are_ports_served, flagged, flags_of, is_set, is_linear_of, are_linear, is_output_bit, is_alone_served, are_lines_served}
+use Rattle.simple_masking.specs.Shared.{IsLikeSimple, data_from, is_clock, is_input_bit}
+use Rattle.simple_masking.proofs.DataPorts.{clocked_is, data_are, is_apart, unclocked}
 use Rattle.simple_masking.proofs.FirstWires.{StandFrom, stand}
 use Rattle.simple_masking.proofs.PortFacts.{port_facts}
 use Rattle.simple_masking.proofs.Products.{of_and}
@@ -72,21 +76,36 @@ all_tell p P each (x ∷ xs) = both (p x) (list_all p xs) (each x) (all_tell p P
 
 -- Ports and marks.
 
-mark_tells : (way : Way) (mark : Mark) → Tells (is_right_mark way mark) ((is_in way ≡ true → mark ≡ Secure) × (is_in way ≡ false → mark ≢ Public))
-mark_tells Input Secure = (λ h. ((λ e. refl), (λ e same. cc)), λ h. refl)
-mark_tells Input Unmarked = nothing (λ h. (let e : Unmarked ≡ Secure = h.0 refl in cc))
-mark_tells Input Public = nothing (λ h. (let e : Public ≡ Secure = h.0 refl in cc))
-mark_tells Input Clock = nothing (λ h. (let e : Clock ≡ Secure = h.0 refl in cc))
-mark_tells Output Public = nothing (λ h. h.1 refl refl)
-mark_tells Output Unmarked = (λ h. ((λ e. absurd (cc)), (λ e same. cc)), λ h. refl)
-mark_tells Output Secure = (λ h. ((λ e. absurd (cc)), (λ e same. cc)), λ h. refl)
-mark_tells Output Clock = (λ h. ((λ e. absurd (cc)), (λ e same. cc)), λ h. refl)
+-- an input with a mark that is not secure is the clock
+clocked_tells : (clock : Option ℕ) (n : ℕ) (mark : Mark) → mark ≢ Secure → Tells (is_clock clock n) ((true ≡ true → (mark ≡ Secure) ↔ (clock ≢ Some n)) × (true ≡ false → mark ≢ Public))
+clocked_tells clock n mark other = (
+  λ h. ((λ e. ((λ s. absurd (other s)), (λ apart. absurd (apart (clocked_is clock n h))))), (λ e. absurd (cc))),
+  λ h. elim (cases_Bool (is_clock clock n)) [ inl here ↦ here | inr apart ↦ absurd (other ((h.0 refl).1 (is_apart clock n apart))) ],
+)
 
-input_tells : (ports : List Port) → Tells (list_any is_input ports) (0 < length (filter is_input ports))
-input_tells [] = (λ h. absurd (cc), λ h. absurd (omega arith))
-input_tells (p ∷ ps) = elim (cases_Bool (is_input p)) [
-  | inl here ↦ rw here ((λ h. omega arith), (λ h. refl))
-  | inr other ↦ rw other (input_tells ps)
+mark_tells : (clock : Option ℕ) (n : ℕ) (way : Way) (mark : Mark)
+    → Tells (is_right_mark way (is_clock clock n) mark) ((is_in way ≡ true → (mark ≡ Secure) ↔ (clock ≢ Some n)) × (is_in way ≡ false → mark ≢ Public))
+mark_tells clock n Input Secure = (
+  λ h. ((λ e. ((λ s. is_apart clock n (not-true (is_clock clock n) h)), (λ apart. refl))), (λ e same. cc)),
+  λ h. not_from_false (is_clock clock n) (unclocked clock n ((h.0 refl).0 refl)),
+)
+mark_tells clock n Input Unmarked = clocked_tells clock n Unmarked (λ e. cc)
+mark_tells clock n Input Public = clocked_tells clock n Public (λ e. cc)
+mark_tells clock n Input Clock = clocked_tells clock n Clock (λ e. cc)
+mark_tells clock n Output Public = nothing (λ h. h.1 refl refl)
+mark_tells clock n Output Unmarked = (λ h. ((λ e. absurd (cc)), (λ e same. cc)), λ h. refl)
+mark_tells clock n Output Secure = (λ h. ((λ e. absurd (cc)), (λ e same. cc)), λ h. refl)
+mark_tells clock n Output Clock = (λ h. ((λ e. absurd (cc)), (λ e same. cc)), λ h. refl)
+
+marks_tell : (clock : Option ℕ) (a : ℕ) (ports : List (Port × Mark)) → Tells (are_right_marks clock a ports) (AllByRecursion (IsMarked clock) (enumerate_from a ports))
+marks_tell clock a ports =
+    all_tell (λ e. is_right_mark e.1.0.way (is_clock clock e.0) e.1.1) (IsMarked clock) (λ e. mark_tells clock e.0 e.1.0.way e.1.1) (enumerate_from a ports)
+
+input_tells : (clock : Option ℕ) (a : ℕ) (ports : List Port) → Tells (has_data_input clock a ports) (0 < length (filter is_input (data_from clock a ports)))
+input_tells clock a [] = (λ h. absurd (cc), λ h. absurd (omega arith))
+input_tells clock a (p ∷ ps) = elim (cases_Bool (is_clock clock a)) [
+  | inl here ↦ elim (cases_Bool (is_input p)) [ inl kept ↦ rw here (rw kept (input_tells clock (a + 1) ps)) | inr left ↦ rw here (rw left (input_tells clock (a + 1) ps)) ]
+  | inr other ↦ elim (cases_Bool (is_input p)) [ inl kept ↦ rw other (rw kept ((λ h. omega arith), (λ h. refl))) | inr left ↦ rw other (rw left (input_tells clock (a + 1) ps)) ]
 ]
 
 only_tells : (a : ℕ) (bits : List ℕ) → Tells (is_only a bits) (bits ≡ a ∷ [])
@@ -110,19 +129,19 @@ abbrev AreFree : List Port → Type 0
 AreFree ports = AllByRecursion (λ p. starts_with nat_eq p.name (codes "agm_") ≡ false) ports
 
 -- what the test of ports tells
-abbrev PortsServed : List Port → List Mark → Type 0
-PortsServed ports marks =
-    (HaveNoRange ports × AreFree ports) × ((0 < length (filter is_input ports)) × ((length marks ≡ length ports) × (AllByRecursion IsMarked (zip ports marks) × StandFrom 0 ports)))
+abbrev PortsServed : Option ℕ → List Port → List Mark → Type 0
+PortsServed clock ports marks =
+    (HaveNoRange ports × AreFree ports)
+    × ((0 < length (filter is_input (data_from clock 0 ports))) × ((length marks ≡ length ports) × (AllByRecursion (IsMarked clock) (enumerate_from 0 (zip ports marks)) × StandFrom 0 ports)))
 
-ports_tell : (ports : List Port) (marks : List Mark) → Tells (are_ports_served ports marks) (PortsServed ports marks)
-ports_tell ports marks =
+ports_tell : (clock : Option ℕ) (ports : List Port) (marks : List Mark) → Tells (are_ports_served clock ports marks) (PortsServed clock ports marks)
+ports_tell clock ports marks =
     let free = all_both_tell is_free_port (λ p. p.range ≡ None) (λ p. starts_with nat_eq p.name (codes "agm_") ≡ false)
     (λ p. both (is_none p.range) (not (starts_with nat_eq p.name (codes "agm_"))) (none_tells p.range) (not_tells (starts_with nat_eq p.name (codes "agm_")))) ports in
-    let marked = all_tell (λ p. is_right_mark p.0.way p.1) IsMarked (λ p. mark_tells p.0.way p.1) (zip ports marks) in
     both (list_all is_free_port ports) _ free
-    (both (list_any is_input ports) _ (input_tells ports)
+    (both (has_data_input clock 0 ports) _ (input_tells clock 0 ports)
     (both (length marks == length ports) _ (equal_tells (length marks) (length ports))
-    (both (list_all (λ p. is_right_mark p.0.way p.1) (zip ports marks)) (stand_from 0 ports) marked (stand_tells 0 ports))))
+    (both (are_right_marks clock 0 (zip ports marks)) (stand_from 0 ports) (marks_tell clock 0 (zip ports marks)) (stand_tells 0 ports))))
 
 -- Flags.
 
@@ -159,6 +178,14 @@ all_set (b ∷ bs) flags w within =
 all_set-length : (bs : List ℕ) (flags : List Bool) → length (fold flagged flags bs) ≡ length flags
 all_set-length [] flags = refl
 all_set-length (b ∷ bs) flags = all_set-length bs (flagged flags b) ∙ length-set flags b true
+
+-- the flags of one port more
+pub one_port_set : (flags : List Bool) (xs ys : List Port) (p : Port) → ys ≡ xs ++ p ∷ [] → fold flagged (fold flagged flags (flat_map (λ q. q.bits) xs)) p.bits ≡ fold flagged flags (flat_map (λ q. q.bits) ys)
+one_port_set flags xs ys p is =
+    let bits = flat_map (λ (q : Port). q.bits) in
+    sym (ap (λ qs. fold flagged flags (bits qs)) is
+    ∙ (ap (fold flagged flags) (flat_map-append (λ (q : Port). q.bits) xs (p ∷ []) ∙ ap (λ bs. bits xs ++ bs) (append-nil p.bits))
+    ∙ fold-append flagged flags (bits xs) p.bits))
 
 -- n flags that tell which wires are known
 abbrev Agrees : ℕ → List Bool → (ℕ → Bool) → Type 0
@@ -335,18 +362,18 @@ linear_operator _ h = absurd h
 
 -- what the tests tell of a net that is plain
 abbrev Rest : PlainNet → List Mark → Type 0
-Rest net marks = ((net.registers ≡ []) × ((net.clock ≡ None) × PortsServed net.ports marks)) × LinesServed (is_input_bit net) net.ports net.lines
+Rest net marks = ((net.registers ≡ []) × PortsServed net.clock net.ports marks) × LinesServed (is_input_bit net) net.ports net.lines
 
 served_from : (net : PlainNet) (marks : List Mark) → IsPlain net → Rest net marks → IsServed net marks
 served_from net marks plain rest =
-    let ports = rest.0.1.1 in
+    let ports = rest.0.1 in
+    let has = subst (λ ps. 0 < length (filter is_input ps)) (sym (data_are net.clock net.ports)) ports.1.0 in
     let first = firsts 0 net.ports ports.1.1.1.1 in
     elim rest.1 [
       | inl linear ↦ inl (record {
         no_register = rest.0.0;
-        no_clock = rest.0.1.0;
         no_range = ports.0.0;
-        has_input = ports.1.0;
+        has_input = has;
         one_mark_each = ports.1.1.0;
         marked = ports.1.1.1.0;
         ports_first = first;
@@ -363,9 +390,8 @@ served_from net marks plain rest =
         is_output = product.1.1.1.1.0;
         else_simple = record {
           no_register = rest.0.0;
-          no_clock = rest.0.1.0;
           no_range = ports.0.0;
-          has_input = ports.1.0;
+          has_input = has;
           one_mark_each = ports.1.1.0;
           marked = ports.1.1.1.0;
           ports_first = first;
@@ -378,10 +404,11 @@ served_from net marks plain rest =
     ]
 
 -- what is told of the ports of a net that is simple with some equations
-frame_to : (net : PlainNet) (lines : List Line) (marks : List Mark) → WellFormed net → IsSimple (with_lines lines net) marks → (net.registers ≡ []) × ((net.clock ≡ None) × PortsServed net.ports marks)
+frame_to : (net : PlainNet) (lines : List Line) (marks : List Mark) → WellFormed net → IsSimple (with_lines lines net) marks → (net.registers ≡ []) × PortsServed net.clock net.ports marks
 frame_to net lines marks well simple =
     let stands = stand net.wires 0 net.ports (λ n p e. well.ports_right.bits_named n p e) simple.no_range simple.ports_first in
-    (simple.no_register, (simple.no_clock, ((simple.no_range, simple.ports_named), (simple.has_input, (simple.one_mark_each, (simple.marked, stands))))))
+    let has = subst (λ ps. 0 < length (filter is_input ps)) (data_are net.clock net.ports) simple.has_input in
+    (simple.no_register, ((simple.no_range, simple.ports_named), (has, (simple.one_mark_each, (simple.marked, stands)))))
 
 served_to : (net : PlainNet) (marks : List Mark) → WellFormed net → IsServed net marks → IsPlain net × Rest net marks
 served_to net marks well served = elim served [
@@ -404,12 +431,11 @@ registers_tell (r ∷ rs) = (λ h. absurd (let none : length (r ∷ rs) ≡ 0 = 
 
 module _ (net : Net) (marks : List Mark) where
   abbrev is_frame : Bool
-  is_frame = (length net.registers == 0) && (is_none net.clock && are_ports_served net.ports marks)
+  is_frame = (length net.registers == 0) && are_ports_served net.clock net.ports marks
 
-  frame_tells : Tells is_frame (((plain_of net).registers ≡ []) × (((plain_of net).clock ≡ None) × PortsServed net.ports marks))
+  frame_tells : Tells is_frame (((plain_of net).registers ≡ []) × PortsServed net.clock net.ports marks)
   frame_tells =
-      both (length net.registers == 0) (is_none net.clock && are_ports_served net.ports marks) (registers_tell net.registers)
-      (both (is_none net.clock) (are_ports_served net.ports marks) (none_tells net.clock) (ports_tell net.ports marks))
+      both (length net.registers == 0) (are_ports_served net.clock net.ports marks) (registers_tell net.registers) (ports_tell net.clock net.ports marks)
 
   pub not_plain : (plain : Bool) → Tells plain (IsPlain (plain_of net)) → plain ≡ false → Tells false (IsServed (plain_of net) marks)
   not_plain plain tells failed =
@@ -420,15 +446,16 @@ module _ (net : Net) (marks : List Mark) where
       nothing (λ served. (let passed : is_frame ≡ true = frame_tells.1 (served_to (plain_of net) marks net.well_formed served).1.0 in cc))
 
   pub all_told : (plain frame answer : Bool) → Tells plain (IsPlain (plain_of net)) → plain ≡ true → frame ≡ is_frame → frame ≡ true
-      → answer ≡ are_lines_served net.ports (flags_of (length net.wires) (flat_map (λ p. p.bits) (filter is_input net.ports))) (map line_of net.equations)
+      → answer ≡ are_lines_served net.ports (flags_of (length net.wires) (flat_map (λ p. p.bits) (filter is_input (data_from net.clock 0 net.ports)))) (map line_of net.equations)
       → Tells answer (IsServed (plain_of net) marks)
   all_told plain frame answer plain_tells is_plain is framed answered =
       let n = length net.wires in
       let known = is_input_bit (plain_of net) in
-      let inputs = flat_map (λ p. p.bits) (filter is_input net.ports) in
+      let inputs = input_bits (plain_of net) in
+      let same : flat_map (λ p. p.bits) (filter is_input (data_from net.clock 0 net.ports)) ≡ inputs = ap (λ ps. flat_map (λ p. p.bits) (filter is_input ps)) (sym (data_are net.clock net.ports)) in
       let lines = served_lines_tell n (flags_of n inputs) known net.ports (plain_of net).lines (agrees_first n inputs) (lines_fit (plain_of net) net.well_formed) in
       let fine : IsPlain (plain_of net) = plain_tells.0 is_plain in
       let front = frame_tells.0 (sym is ∙ framed) in
-      changed answer (subst (λ b. Tells b (LinesServed known net.ports (plain_of net).lines)) (sym answered) lines)
+      changed answer (subst (λ b. Tells b (LinesServed known net.ports (plain_of net).lines)) (sym (answered ∙ ap (λ ws. are_lines_served net.ports (flags_of n ws) (plain_of net).lines) same)) lines)
       (λ h. served_from (plain_of net) marks fine (front, h))
       (λ h. (served_to (plain_of net) marks net.well_formed h).1.1)

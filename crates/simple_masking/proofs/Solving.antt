@@ -6,7 +6,8 @@ use Rattle.std.proofs.Math.Seq.{drop-cons, take-suc}
 use Rattle.std.proofs.lemmas.List.{map-append}
 use Rattle.agm_net.specs.Formula.{Formula, f_wire, f_not, f_xor, value, stands, reads_below}
 use Rattle.agm_net.specs.Plain.{Line, line_of}
-use Rattle.agm_net.specs.Simple.{IsLinear, ReadsKnown}
+use Rattle.agm_net.specs.Small.{ReadsKnown}
+use Rattle.simple_masking.specs.Simple.{IsLinear}
 use Rattle.agm_net.specs.Trace.{Holds}
 use Rattle.agm_net.specs.declared.expr.Equation.{Equation}
 use Rattle.share_wiring.specs.Adds.{Extends, Stays, AddsFact, recombined}

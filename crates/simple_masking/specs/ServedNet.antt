@@ -1,27 +1,23 @@
 -- What the test of a net that is masked so far computes, as functions of lists.
-use Rattle.std.specs.Prelude.{◌+◌, ◌==◌, ◌&&◌, ◌⊎◌, ℕ, Bool, true, false, not, List, [], ◌∷◌, length, fold, replicate, slice_set, slice_index_or, codes, nat_eq, is_none}
-use Rattle.std.specs.List.{list_all, list_any, zip, starts_with}
-use Rattle.agm_net.specs.Plain.{Line, PlainNet, is_input}
-use Rattle.agm_net.specs.Simple.{IsSimple, IsProduct}
+use Rattle.std.specs.Prelude.{◌+◌, ◌==◌, ◌&&◌, ℕ, Bool, true, false, not, List, [], ◌∷◌, length, fold, replicate, slice_set, slice_index_or, codes, nat_eq, is_none, Option}
+use Rattle.std.specs.List.{list_all, list_any, zip, enumerate_from, starts_with}
+use Rattle.agm_net.specs.Plain.{Line, is_input}
 use Rattle.agm_net.specs.declared.mark.Mark.{Mark}
 use Rattle.agm_net.specs.declared.mark.Mark.TheVariants.{Secure, Public}
 use Rattle.agm_net.specs.declared.port.Port.{Port}
 use Rattle.agm_net.specs.declared.port.Way.{Way}
 use Rattle.agm_net.specs.declared.port.Way.TheVariants.{Input, Output}
 use Rattle.share_wiring.specs.Gates.{gate_of}
+use Rattle.simple_masking.specs.Shared.{is_clock}
 use Rattle.share_wiring.specs.declared.gate.Gate.{Gate}
 use Rattle.share_wiring.specs.declared.gate.Gate.TheVariants.{Same, Not, And, Xor}
 
--- a net that is masked so far: a simple net, or one of one product
-abbrev pub IsServed : PlainNet → List Mark → Type 0
-IsServed net marks = IsSimple net marks ⊎ IsProduct net marks
-
--- whether an input is marked secure, and an output is not marked public
-abbrev pub is_right_mark : Way → Mark → Bool
-is_right_mark Input Secure = true
-is_right_mark Input _ = false
-is_right_mark Output Public = false
-is_right_mark Output _ = true
+-- whether an input is marked secure exactly where it is not the clock, and an output is not marked public
+abbrev pub is_right_mark : Way → Bool → Mark → Bool
+is_right_mark Input clocked Secure = not clocked
+is_right_mark Input clocked _ = clocked
+is_right_mark Output clocked Public = false
+is_right_mark Output clocked _ = true
 
 -- whether a port has no range, and a name that no port of a masked net has
 abbrev pub is_free_port : Port → Bool
@@ -38,11 +34,23 @@ abbrev pub stand_from : ℕ → List Port → Bool
 stand_from a [] = true
 stand_from a (p ∷ ps) = is_only a p.bits && stand_from (a + 1) ps
 
+-- whether a port with its number is an input, and not the clock
+abbrev pub is_data_input : Option ℕ → ℕ × Port → Bool
+is_data_input clock e = is_input e.1 && not (is_clock clock e.0)
+
+-- whether there is one, where the first port has number a
+abbrev pub has_data_input : Option ℕ → ℕ → List Port → Bool
+has_data_input clock a ports = list_any (is_data_input clock) (enumerate_from a ports)
+
+-- whether marks of ports, the first of which has number a, are right
+abbrev pub are_right_marks : Option ℕ → ℕ → List (Port × Mark) → Bool
+are_right_marks clock a ports = list_all (λ e. is_right_mark e.1.0.way (is_clock clock e.0) e.1.1) (enumerate_from a ports)
+
 -- whether ports and their marks are those of a net that is masked
-abbrev pub are_ports_served : List Port → List Mark → Bool
-are_ports_served ports marks =
+abbrev pub are_ports_served : Option ℕ → List Port → List Mark → Bool
+are_ports_served clock ports marks =
     list_all is_free_port ports
-    && (list_any is_input ports && ((length marks == length ports) && (list_all (λ p. is_right_mark p.0.way p.1) (zip ports marks) && stand_from 0 ports)))
+    && (has_data_input clock 0 ports && ((length marks == length ports) && (are_right_marks clock 0 (zip ports marks) && stand_from 0 ports)))
 
 -- a list of flags, one for each wire, with this wire's set
 abbrev pub flagged : List Bool → ℕ → List Bool

@@ -1,11 +1,12 @@
 -- What is kept while a net is masked wire by wire.
-use Rattle.std.specs.Prelude.{◌≡◌, ◌<◌, ◌+◌, ◌*◌, ◌/◌, ◌++◌, ◌⊎◌, ◌==◌, cond, ℕ, zero, suc, Bool, List, [], ◌∷◌, length, map, filter, slice_index_or, codes, Some, None}
-use Rattle.std.specs.List.{range_with_len, list_any, flat_map}
-use Rattle.agm_net.specs.Plain.{Line, PlainNet, is_input}
+use Rattle.std.specs.Prelude.{◌≡◌, ◌<◌, ◌+◌, ◌*◌, ◌/◌, ◌++◌, ◌⊎◌, ◌==◌, cond, ℕ, zero, suc, Bool, false, List, [], ◌∷◌, length, map, slice_index_or, codes, Option, Some, None}
+use Rattle.std.specs.List.{range_with_len, list_any}
+use Rattle.agm_net.specs.Plain.{Line, PlainNet, data_ports, input_bits}
 use Rattle.agm_net.specs.Role.{share_name}
 use Rattle.agm_net.specs.Trace.{Row, bit_at, Holds, IsTrace}
 use Rattle.agm_net.specs.Loop.{HasNoLoop}
-use Rattle.agm_net.specs.Simple.{IsSimple, IsSmallNet, with_lines}
+use Rattle.agm_net.specs.Small.{IsSmallNet}
+use Rattle.simple_masking.specs.Simple.{IsSimple, with_lines}
 use Rattle.agm_net.specs.declared.mark.Mark.{Mark}
 use Rattle.agm_net.specs.declared.port.Port.{Port}
 use Rattle.agm_net.specs.declared.port.Way.{Way}
@@ -19,6 +20,16 @@ use Rattle.share_wiring.specs.declared.report.Mode.TheVariants.{Naive}
 use Rattle.share_wiring.specs.declared.report.Balance.TheVariants.{Pipe}
 use Rattle.share_wiring.specs.declared.sharing.Sharing.{Sharing}
 use Rattle.share_wiring.specs.Cells.{AddsCells}
+
+-- whether the port of this number is the clock's
+abbrev pub is_clock : Option ℕ → ℕ → Bool
+is_clock None k = false
+is_clock (Some c) k = c == k
+
+-- ports, the first of which has number a, without the clock's
+abbrev pub data_from : Option ℕ → ℕ → List Port → List Port
+data_from clock a [] = []
+data_from clock a (p ∷ ps) = cond (is_clock clock a) (data_from clock (a + 1) ps) (p ∷ data_from clock (a + 1) ps)
 
 -- a port with one bit
 abbrev pub one_bit : List ℕ → Way → ℕ → Port
@@ -89,9 +100,9 @@ HasSharing {n} wires table w = IsSharing wires n (shares_of table w)
 abbrev pub bit_of : Port → ℕ
 bit_of p = slice_index_or p.bits 0 0
 
--- a bit of an input port
+-- an input bit, which the clock's is not
 abbrev pub is_input_bit : PlainNet → ℕ → Bool
-is_input_bit net w = list_any (λ b. b == w) (flat_map (λ p. p.bits) (filter is_input net.ports))
+is_input_bit net w = list_any (λ b. b == w) (input_bits net)
 
 -- the ports of the shares of some ports, in order, where `at p i w` holds of the wire w of share i of port p
 abbrev pub ArePorts : ℕ → (Port → ℕ → ℕ → Type 0) → List Port → List Port → Type 0
@@ -127,8 +138,8 @@ IsLikeSimple net = (lines : List Line) × (marks : List Mark) × IsSimple (with_
 abbrev pub Follows : PlainNet → (ℕ → List ℕ) → Port → ℕ → ℕ → Type 0
 Follows net shares p i w = (power : Row) (tape table : List Row) → IsTrace net power tape table → (t : ℕ) → t < length table → bit_at table t w ≡ bit_at table t (share (shares (bit_of p)) i)
 
--- What a masked net is made as. The small form can state it. Behind the first ports it has those of the shares of the original's ports. Each wire of the original
--- has a sharing, and the bits of each port's shares are those of its wire's. In each trace the original's equations hold of what the
+-- What a masked net is made as. The small form can state it. Behind the first ports it has those of the shares of the original's ports but the clock's. Each
+-- wire of the original has a sharing, and the bits of each port's shares are those of its wire's. In each trace the original's equations hold of what the
 -- sharings recombine to, those of input bits in one cycle, and the others so many cycles later.
 pub record IsMaskOf (original : PlainNet) (n random latency : ℕ) (net : PlainNet) : Type 0 where
   pub shares : ℕ → List ℕ
@@ -137,11 +148,11 @@ pub record IsMaskOf (original : PlainNet) (n random latency : ℕ) (net : PlainN
   pub clock : net.clock ≡ Some 0
   pub no_loop : HasNoLoop net
   pub small : IsSmallNet net
-  pub shared : ArePorts n (Follows net shares) original.ports made
+  pub shared : ArePorts n (Follows net shares) (data_ports original) made
   pub solves : (power : Row) (tape table : List Row) → IsTrace net power tape table → (t : ℕ) → t + latency < length table
       → Holds (λ w. recombined n (bit_at table (cond (is_input_bit original w) t (t + latency))) (shares w)) original.lines
 
--- the report of a net whose ports of these names are all shared, masked with so many gadgets, none or one behind the other
+-- the report of a net whose ports of these names are those that are shared, masked with so many gadgets, none or one behind the other
 abbrev pub report_with : (order gadgets : ℕ) → List (List ℕ) → Report
 report_with order gadgets names = record {
   order = order;

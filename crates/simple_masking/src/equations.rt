@@ -3,7 +3,8 @@
 ghost use Rattle.std.specs.Prelude.{◌≡◌, ◌≢◌, ◌<◌, ◌≤◌, ◌==◌, ℕ, length, IsTrue, IfOk, OnOk};
 ghost use Rattle.std.specs.List.{list_any, AllByRecursion};
 ghost use Rattle.agm_net.specs.Formula.{stands, value as value_of};
-ghost use Rattle.agm_net.specs.Simple.{IsLinear, InOrder};
+ghost use Rattle.agm_net.specs.Small.{InOrder};
+ghost use Rattle.simple_masking.specs.Simple.{IsLinear};
 ghost use Rattle.agm_net.specs.View.{plain_of};
 ghost use Rattle.share_wiring.specs.Gates.{gate_formula};
 ghost use Rattle.share_wiring.specs.Adds.{Extends, Stays, AddsFact, recombined};

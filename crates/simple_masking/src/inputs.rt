@@ -2,10 +2,11 @@
 
 ghost use Rattle.std.specs.Prelude.{◌≡◌, ◌<◌, ◌≤◌, ℕ, length, filter, IsTrue, IfOk, OnOk};
 ghost use Rattle.std.specs.List.{AllByRecursion};
-ghost use Rattle.agm_net.specs.Plain.{is_input};
+ghost use Rattle.agm_net.specs.Plain.{is_input, data_ports};
 ghost use Rattle.agm_net.specs.View.{plain_of};
 ghost use Rattle.share_wiring.specs.Adds.{Extends, AddsFact};
-ghost use Rattle.simple_masking.specs.Shared.{IsOneOrRandom, HasSharing, HasInputs, HasNoShares, IsLikeSimple, is_input_bit, first_ports};
+ghost use Rattle.simple_masking.specs.ServedNet.{is_data_input};
+ghost use Rattle.simple_masking.specs.Shared.{is_clock as is_clock_of, IsOneOrRandom, HasSharing, HasInputs, HasNoShares, IsLikeSimple, is_input_bit, first_ports};
 ghost use Rattle.share_wiring.specs.Cells.{AreCells, AddsCells};
 
 use crate::equations::set_sharing;
@@ -48,7 +49,24 @@ pub fn is_in(port: &Port) -> bool
     port.way == Way::Input
 }
 
-/// Makes the ports of the shares of the input ports, which stand last, and sets the sharings of their bits.
+/// Whether the port of a number is the clock's.
+pub fn is_clock(clock: Option<usize>, number: usize) -> bool
+    ensures { result ≡ is_clock_of clock number }
+{
+    match clock {
+        Some(place) => place == number,
+        None => false,
+    }
+}
+
+/// Whether a port with its number is an input, and not the clock.
+pub fn is_data_in(clock: Option<usize>, number: usize, port: &Port) -> bool
+    ensures { result ≡ is_data_input clock (number, port.now) }
+{
+    is_in(port) && !is_clock(clock, number)
+}
+
+/// Makes the ports of the shares of the input ports, which stand last, and sets the sharings of their bits. The clock has none.
 pub fn inputs<const S: usize>(
     builder: &mut Builder,
     net: &Net,
@@ -62,7 +80,7 @@ pub fn inputs<const S: usize>(
     ensures extends { Extends builder.old builder.new }
     ensures cells { OnOk result (AddsCells builder.old builder.new) }
     ensures full { length table.new.items ≡ length net.now.wires }
-    ensures ports { OnOk result (HasInputs S builder.old.ports builder.new table.new.items (filter is_input net.now.ports)) }
+    ensures ports { OnOk result (HasInputs S builder.old.ports builder.new table.new.items (filter is_input (data_ports (plain_of net.now)))) }
     ensures sharings { OnOk result ((w : ℕ) → IsTrue (is_input_bit (plain_of net.now) w) → HasSharing builder.new.wires table.new.items w) }
     ensures gadgets { OnOk result (builder.new.gadgets ≡ builder.old.gadgets) }
     ensures given { OnOk result (builder.new.given ≡ builder.old.given) }
@@ -70,7 +88,7 @@ pub fn inputs<const S: usize>(
     let ports = net.ports.as_slice();
     for k in 0..ports.len() {
         let port = &ports[k];
-        if is_in(port) {
+        if is_data_in(net.clock, k, port) {
             let sharing = share_in(builder, port.name.as_slice())?;
             set_sharing(table, k, sharing);
         }

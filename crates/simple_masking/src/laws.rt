@@ -2,7 +2,7 @@
 
 ghost use Rattle.std.specs.Prelude.{◌≡◌, ◌≤◌, ◌⊎◌, ℕ, List, [], length};
 ghost use Rattle.agm_net.specs.Plain.{PlainNet};
-ghost use Rattle.agm_net.specs.Simple.{IsSimple, IsProduct};
+ghost use Rattle.simple_masking.specs.Simple.{IsSimple, IsProduct};
 ghost use Rattle.agm_net.specs.Trace.{Row, IsTrace};
 ghost use Rattle.agm_net.specs.WellFormed.{WellFormed};
 ghost use Rattle.agm_net.specs.declared.mark.Mark.{Mark};

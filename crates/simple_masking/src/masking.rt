@@ -2,7 +2,8 @@
 
 ghost use Rattle.std.specs.Prelude.{◌≡◌, ◌<◌, ◌≤◌, ◌+◌, ◌-◌, ◌*◌, ◌/◌, ◌⊎◌, ◌∷◌, [], ℕ, IfOk};
 ghost use Rattle.agm_net.specs.Formula.{f_wire, f_and, f_xor};
-ghost use Rattle.agm_net.specs.Simple.{IsSimple, IsProduct, IsSmallNet, with_lines};
+ghost use Rattle.agm_net.specs.Small.{IsSmallNet};
+ghost use Rattle.simple_masking.specs.Simple.{IsSimple, IsProduct, with_lines};
 ghost use Rattle.agm_net.specs.View.{plain_of};
 ghost use Rattle.share_wiring.specs.ReportOf.{ReportOf};
 ghost use Rattle.share_wiring.specs.Same.{Same};

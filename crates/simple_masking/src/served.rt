@@ -1,26 +1,27 @@
 //! Whether a net is one that is masked.
 
-ghost use Rattle.std.specs.Prelude.{◌≡◌, ◌↔◌, ◌⊎◌, ◌&&◌, ◌==◌, ℕ, not, is_none, map, filter, fold, length, codes, nat_eq, IsTrue, IfOk};
+ghost use Rattle.std.specs.Prelude.{◌≡◌, ◌↔◌, ◌⊎◌, ◌&&◌, ◌==◌, ℕ, not, map, filter, fold, length, codes, nat_eq, IsTrue, IfOk};
 ghost use Rattle.std.specs.List.{flat_map, list_all, list_any, zip, starts_with};
 ghost use Rattle.agm_net.specs.Formula.{formula_of};
 ghost use Rattle.agm_net.specs.Plain.{is_input, line_of};
-ghost use Rattle.agm_net.specs.Simple.{IsSimple, IsProduct};
+ghost use Rattle.simple_masking.specs.Simple.{IsSimple, IsProduct};
 ghost use Rattle.agm_net.specs.View.{plain_of};
 ghost use Rattle.share_wiring.specs.Gates.{gate_of};
+ghost use Rattle.simple_masking.specs.Shared.{data_from};
 ghost use Rattle.simple_masking.specs.ServedNet as spec;
 
-use crate::inputs::is_in;
+use crate::inputs::{is_clock, is_data_in, is_in};
 use agm_bits::Memory;
 use agm_net::{Equation, Mark, Marks, Net, Port, Way};
 use share_wiring::Gate;
 use std::alloc::Global;
 
-// Whether an input is marked secure, and an output is not marked public.
-fn is_right_mark(way: Way, mark: Mark) -> bool
-    ensures { result ≡ spec.is_right_mark way mark }
+// Whether an input is marked secure exactly where it is not the clock, and an output is not marked public.
+fn is_right_mark(way: Way, clocked: bool, mark: Mark) -> bool
+    ensures { result ≡ spec.is_right_mark way clocked mark }
 {
     match way {
-        Way::Input => mark == Mark::Secure,
+        Way::Input => (mark == Mark::Secure) != clocked,
         Way::Output => mark != Mark::Public,
     }
 }
@@ -38,19 +39,23 @@ fn are_free_ports(ports: &[Port]) -> bool
     ports.iter().all(|port| is_free_port(port))
 }
 
-fn has_input(ports: &[Port]) -> bool
-    ensures { result ≡ list_any is_input ports.now }
-{
-    ports.iter().any(|port| is_in(port))
-}
-
-fn are_right_marks(ports: &[Port], marks: &[Mark]) -> bool
-    ensures { result ≡ list_all (λ p. spec.is_right_mark p.0.way p.1) (zip ports.now marks.now) }
+fn has_data_in(clock: Option<usize>, ports: &[Port]) -> bool
+    ensures { result ≡ spec.has_data_input clock 0 ports.now }
 {
     ports
         .iter()
-        .zip(marks)
-        .all(|(port, mark)| is_right_mark(port.way, *mark))
+        .enumerate()
+        .any(|(number, port)| is_data_in(clock, number, port))
+}
+
+fn are_right_marks(clock: Option<usize>, ports: &[Port], marks: &[Mark]) -> bool
+    ensures { result ≡ spec.are_right_marks clock 0 (zip ports.now marks.now) }
+{
+    ports.iter().zip(marks).enumerate().all(|(number, (port, mark))| is_right_mark(
+        port.way,
+        is_clock(clock, number),
+        *mark,
+    ))
 }
 
 // Whether these are one wire, this one.
@@ -76,13 +81,13 @@ fn stand_first(ports: &[Port]) -> bool
 }
 
 // Whether ports and their marks are those of a net that is masked.
-fn are_ports_served(ports: &[Port], marks: &[Mark]) -> bool
-    ensures { result ≡ spec.are_ports_served ports.now marks.now }
+fn are_ports_served(clock: Option<usize>, ports: &[Port], marks: &[Mark]) -> bool
+    ensures { result ≡ spec.are_ports_served clock ports.now marks.now }
 {
     are_free_ports(ports)
-        && (has_input(ports)
+        && (has_data_in(clock, ports)
             && (marks.len() == ports.len()
-                && (are_right_marks(ports, marks) && stand_first(ports))))
+                && (are_right_marks(clock, ports, marks) && stand_first(ports))))
 }
 
 // Sets a wire's flag.
@@ -102,23 +107,23 @@ fn set_all(flags: &mut [bool], wires: &[usize])
     }
 }
 
-// Sets the flags of the input ports' bits.
-fn set_inputs(flags: &mut [bool], ports: &[Port])
-    ensures { flags.new ≡ fold spec.flagged flags.old (flat_map (λ p. p.bits) (filter is_input ports.now)) }
+// Sets the flags of the input bits.
+fn set_inputs(flags: &mut [bool], clock: Option<usize>, ports: &[Port])
+    ensures { flags.new ≡ fold spec.flagged flags.old (flat_map (λ p. p.bits) (filter is_input (data_from clock 0 ports.now))) }
 {
-    for port in ports {
-        if is_in(port) {
+    for (number, port) in ports.iter().enumerate() {
+        if is_data_in(clock, number, port) {
             set_all(flags, port.bits.as_slice());
         }
     }
 }
 
-// Flags for so many wires, of which those of the input bits are set.
-fn flags_of(alloc: Global, count: usize, ports: &[Port]) -> Result<Vec<bool>, Memory>
-    ensures { IfOk result (λ flags. flags.items ≡ spec.flags_of count (flat_map (λ p. p.bits) (filter is_input ports.now))) }
+// Flags for the wires of a net, of which those of the input bits are set.
+fn flags_of(alloc: Global, net: &Net) -> Result<Vec<bool>, Memory>
+    ensures { IfOk result (λ flags. flags.items ≡ spec.flags_of (length net.now.wires) (flat_map (λ p. p.bits) (filter is_input (data_from net.now.clock 0 net.now.ports)))) }
 {
-    let mut flags = vec![in alloc; false; count]?;
-    set_inputs(flags.as_mut_slice(), ports);
+    let mut flags = vec![in alloc; false; net.wires.len()]?;
+    set_inputs(flags.as_mut_slice(), net.clock, net.ports.as_slice());
     Ok(flags)
 }
 
@@ -198,21 +203,24 @@ fn are_lines_served(ports: &[Port], flags: &mut [bool], equations: &[Equation]) 
     }
 }
 
-// Whether a net has no register and no clock, and its ports are those of a net that is masked.
+// Whether a net has no register, and its ports are those of a net that is masked.
 fn is_frame_served(net: &Net, marks: &Marks) -> bool
-    ensures { result ≡ ((length net.now.registers == 0) && (is_none net.now.clock && spec.are_ports_served net.now.ports marks.now.kinds)) }
+    ensures { result ≡ ((length net.now.registers == 0) && spec.are_ports_served net.now.clock net.now.ports marks.now.kinds) }
 {
     net.registers.len() == 0
-        && (net.clock.is_none() && are_ports_served(net.ports.as_slice(), marks.kinds.as_slice()))
+        && are_ports_served(net.clock, net.ports.as_slice(), marks.kinds.as_slice())
 }
 
 // Whether a net's equations are those of a net that is masked.
 fn are_equations_served(alloc: Global, net: &Net) -> Result<bool, Memory>
-    ensures { IfOk result (λ b. b ≡ spec.are_lines_served net.now.ports (spec.flags_of (length net.now.wires) (flat_map (λ p. p.bits) (filter is_input net.now.ports))) (map line_of net.now.equations)) }
+    ensures { IfOk result (λ b. b ≡ spec.are_lines_served net.now.ports (spec.flags_of (length net.now.wires) (flat_map (λ p. p.bits) (filter is_input (data_from net.now.clock 0 net.now.ports)))) (map line_of net.now.equations)) }
 {
-    let ports = net.ports.as_slice();
-    let mut flags = flags_of(alloc, net.wires.len(), ports)?;
-    Ok(are_lines_served(ports, flags.as_mut_slice(), net.equations.as_slice()))
+    let mut flags = flags_of(alloc, net)?;
+    Ok(are_lines_served(
+        net.ports.as_slice(),
+        flags.as_mut_slice(),
+        net.equations.as_slice(),
+    ))
 }
 
 /// Whether a net with its marks is one that `mask_net` masks: a simple net, or a net of one product.

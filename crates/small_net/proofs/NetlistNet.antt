@@ -7,7 +7,7 @@ use Rattle.std.proofs.lemmas.List.{length-map, get_or-map}
 use Rattle.std.proofs.lemmas.Option.{slice_get-get_or}
 use Rattle.agm_net.specs.Formula.{Formula, f_wire, reads_below}
 use Rattle.agm_net.specs.Plain.{Line, Stored, PlainNet}
-use Rattle.agm_net.specs.Simple.{IsSmallNet}
+use Rattle.agm_net.specs.Small.{IsSmallNet}
 use Rattle.agm_net.specs.WellFormed.{WellFormed}
 use Rattle.agm_net.specs.Renumbered.{renumbered, renumbered_line, renumbered_register, renumbered_port, Renumbered}
 use Rattle.agm_net.specs.declared.port.Port.{Port}

@@ -8,7 +8,7 @@ use Rattle.std.proofs.lemmas.Option.{slice_get_within, get_or_from_slice_get}
 use Rattle.agm_net.specs.Formula.{Formula, f_zero, f_one, f_wire, f_not, f_and, f_xor, reads_below}
 use Rattle.agm_net.specs.Plain.{Line, Stored, PlainNet, bit_names, range_numbers, select_name}
 use Rattle.agm_net.specs.PlainForm.{IsWire}
-use Rattle.agm_net.specs.Simple.{IsCell, IsSmallNet}
+use Rattle.agm_net.specs.Small.{IsCell, IsSmallNet}
 use Rattle.agm_net.specs.WellFormed.{WellFormed, Differ}
 use Rattle.agm_net.specs.declared.port.Range.{Range}
 use Rattle.agm_net.specs.declared.port.Port.{Port}

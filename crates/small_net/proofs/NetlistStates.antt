@@ -7,7 +7,7 @@ use Rattle.std.proofs.lemmas.Grind.{flat_map-append}
 use Rattle.std.proofs.lemmas.List.{length-map}
 use Rattle.agm_net.specs.Plain.{Line, Stored, PlainNet, range_numbers, line_of, stored_of}
 use Rattle.agm_net.specs.PlainForm.{RangeFits}
-use Rattle.agm_net.specs.Simple.{IsSmallNet}
+use Rattle.agm_net.specs.Small.{IsSmallNet}
 use Rattle.agm_net.specs.Writable.{IsWritable}
 use Rattle.agm_net.specs.WellFormed.{WellFormed, Differ}
 use Rattle.agm_net.specs.Renumbered.{Renumbered}

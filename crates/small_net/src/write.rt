@@ -1,6 +1,6 @@
 ghost use Rattle.std.specs.Prelude.{IfOk};
 ghost use Rattle.agm_net.specs.View.{plain_of};
-ghost use Rattle.agm_net.specs.Simple.{IsSmallNet};
+ghost use Rattle.agm_net.specs.Small.{IsSmallNet};
 ghost use Rattle.small_net.specs.Texts.{StatesRenumbered};
 
 use crate::netlist::netlist_of;

@@ -1,5 +1,5 @@
 use Rattle.std.proofs.Common.{◌∙◌, sym, subst}
-use Rattle.agm_net.specs.Simple.{IsCell}
+use Rattle.agm_net.specs.Small.{IsCell}
 use Rattle.hpc2_gadget.specs.Kinds.{kind_of}
 use Rattle.hpc2_gadget.proofs.Made.{new_part, part_grown, part_shared}
 use Rattle.hpc2_gadget.proofs.parts.gate.Goals as goal

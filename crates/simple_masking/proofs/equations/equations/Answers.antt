@@ -2,13 +2,14 @@ use Rattle.std.proofs.Common.{◌≡◌, ◌<◌, ◌+◌, ◌==◌, ℕ, [], le
 use Rattle.std.specs.List.{list_any}
 use Rattle.agm_net.specs.Formula.{Formula, formula_of, stands, value}
 use Rattle.agm_net.specs.Plain.{line_of}
-use Rattle.agm_net.specs.Simple.{IsLinear}
+use Rattle.simple_masking.specs.Simple.{IsLinear}
 use Rattle.agm_net.specs.View.{plain_of}
 use Rattle.share_wiring.specs.Gates.{gate_formula}
 use Rattle.share_wiring.proofs.Drivers.{fresh_lines, lines_fit}
 use Rattle.hpc2_gadget.proofs.Sizes.{array_fits}
 use Rattle.simple_masking.specs.Shared.{is_input_bit, Solves, HasSharing, worth}
 use Rattle.share_wiring.proofs.Runs.{extends_refl, extends_trans}
+use Rattle.simple_masking.proofs.DataPorts.{data_input}
 use Rattle.simple_masking.proofs.Solving.{Solving, solving_at, solving_next, solving_more, read_known, linear_gate, line_known, take_past}
 use Rattle.simple_masking.proofs.equations.equations.Goals as goal
 
@@ -30,7 +31,7 @@ loop-equation-init g c =
       done_known = tt;
       adds = λ cycles bits run. (run, tt);
       solves = λ cycles bits run t lt. tt;
-      fresh = fresh_lines net c.args.net.now.well_formed c.requires.order;
+      fresh = fresh_lines net (is_input_bit net) c.args.net.now.well_formed (data_input net) c.requires.order;
       linear = c.requires.linear;
       fits = lines_fit net c.args.net.now.well_formed;
     })

@@ -1,6 +1,6 @@
 use Rattle.std.proofs.Common.{subst}
 use Rattle.std.specs.List.{AllByRecursion}
-use Rattle.agm_net.specs.Simple.{IsLinear}
+use Rattle.simple_masking.specs.Simple.{IsLinear}
 use Rattle.simple_masking.proofs.laws.simple_is_no_product.Goals as goal
 
 pub returns : goal.returns

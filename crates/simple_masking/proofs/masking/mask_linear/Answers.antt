@@ -19,7 +19,7 @@ returns-clause-same c =
     let like : IsLikeSimple net = (net.lines, marks, c.requires.simple) in
     let mask : IsMaskOf net (d + 1) (0 * d * (d + 1) / 2) (2 * 0) masked = subst (λ r. IsMaskOf net (d + 1) r 0 masked) (none_random d) c.in_ok-masked.ensures in
     subst (λ report. Same net marks report masked) (sym c.in_ok-report.ensures)
-    (is_same net masked d 0 c.args.net.now.well_formed like c.in_ok-masked.masked.well_formed mask marks c.requires.simple.no_register c.requires.simple.in_order)
+    (is_same net masked d 0 c.args.net.now.well_formed like c.in_ok-masked.masked.well_formed mask marks c.requires.simple.in_order)
 
 pub returns-clause-report : goal.returns-clause-report
 returns-clause-report c =

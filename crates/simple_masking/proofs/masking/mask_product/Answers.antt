@@ -22,7 +22,7 @@ returns-clause-same c =
     let like : IsLikeSimple net = ((p.target, f_xor (f_wire p.left) (f_wire p.right)) ∷ [], marks, c.requires.simple) in
     let mask : IsMaskOf net (d + 1) (1 * d * (d + 1) / 2) (2 * 1) masked = subst (λ r. IsMaskOf net (d + 1) r 2 masked) c.last_random-last.ensures c.in_ok-masked.ensures in
     subst (λ report. Same net marks report masked) (sym c.in_ok-report.ensures)
-    (is_same net masked d 1 c.args.net.now.well_formed like c.in_ok-masked.masked.well_formed mask marks c.requires.simple.no_register facts.order)
+    (is_same net masked d 1 c.args.net.now.well_formed like c.in_ok-masked.masked.well_formed mask marks facts.order)
 
 pub returns-clause-report : goal.returns-clause-report
 returns-clause-report c =

@@ -1,15 +1,15 @@
-use Rattle.std.proofs.Common.{◌≡◌, ◌<◌, ◌≤◌, ◌+◌, ◌^◌, ◌++◌, ◌∷◌, [], ℕ, length, filter, sym, ap, subst, ◌∙◌, arith, IsTrue, ◌==◌}
+use Rattle.std.proofs.Common.{◌≡◌, ◌≢◌, ◌<◌, Some, ◌≤◌, ◌+◌, ◌^◌, ◌++◌, ◌∷◌, [], ℕ, length, filter, sym, ap, subst, ◌∙◌, arith, IsTrue, ◌==◌}
 use Rattle.std.specs.List.{AllByRecursion, list_any}
 use Rattle.std.proofs.lemmas.Bool.{both_ways}
 use Rattle.agm_net.specs.Formula.{f_wire, f_and, f_xor}
-use Rattle.agm_net.specs.Plain.{is_input}
+use Rattle.agm_net.specs.Plain.{data_ports, is_input}
 use Rattle.agm_net.specs.View.{plain_of}
 use Rattle.share_wiring.specs.Adds.{random_bits}
 use Rattle.share_wiring.specs.Wiring.{IsSharing, MayBeShare, share}
-use Rattle.share_wiring.proofs.Drivers.{driver_cases}
 use Rattle.hpc2_gadget.proofs.Sizes.{array_fits}
 use Rattle.simple_masking.specs.Shared.{HasInputs, HasPorts, HasSharing, HasNoShares, IsLikeSimple, IsOneOrRandom, first_ports, shares_of, is_input_bit}
 use Rattle.simple_masking.proofs.Entering.{first_free, first_ones}
+use Rattle.simple_masking.proofs.DataPorts.{data_cases}
 use Rattle.simple_masking.proofs.Made.{inputs_stay, sharing_stays}
 use Rattle.simple_masking.proofs.Products.{product_facts, enough_random, only_line, is_product_mask}
 use Rattle.simple_masking.proofs.masking.shared_product.Goals as goal
@@ -69,15 +69,15 @@ outputs-requires g c =
     let old = c.inputs.new.builder in
     let new = c.multiplied.new.builder in
     let front = first_ports (c.args.last + 1) in
-    let given = subst (λ ports. HasInputs n ports old table (filter is_input net.ports)) c.in_ok-builder.ensures.ports entered.ports in
+    let given = subst (λ ports. HasInputs n ports old table (filter is_input (data_ports net))) c.in_ok-builder.ensures.ports entered.ports in
     let like : IsLikeSimple net = ((p.target, f_xor (f_wire p.left) (f_wire p.right)) ∷ [], c.args.marks.now.kinds, c.requires.simple) in
     let kept : (w : ℕ) → IsTrue (is_input_bit net w) → shares_of table' w ≡ shares_of table w =
     λ w h. c.set_sharing.ensures.others w (λ e. both_ways (is_input_bit net p.target) facts.target_new (ap (is_input_bit net) (sym e) ∙ h)) in
     let has = inputs_stay net n front old new table table' well like kept made.ports given in
     let product : HasSharing new.wires table' p.target = subst (IsSharing new.wires n) (sym c.set_sharing.ensures.set) made.shares in
-    let sharings : (w : ℕ) → w < length net.wires → HasSharing new.wires table' w =
-    λ w lt.
-    driver_cases net (HasSharing new.wires table' w) well c.requires.simple.no_register w lt
+    let sharings : (w : ℕ) → w < length net.wires → net.clock ≢ Some w → HasSharing new.wires table' w =
+    λ w lt apart.
+    data_cases net (HasSharing new.wires table' w) well like w lt apart
     (λ input. sharing_stays n old new table table' w made.extends (kept w input) (entered.sharings w input))
     (λ line. subst (HasSharing new.wires table') (only_line p.target w (f_and (f_wire p.left) (f_wire p.right)) (subst (λ ls. IsTrue (list_any (λ l. l.0 == w) ls)) c.requires.product line)) product) in
     let same = sym c.as_slice-3.ensures.value in (
@@ -85,9 +85,9 @@ outputs-requires g c =
       (
         like,
         (
-          subst (λ items. HasInputs n front new items (filter is_input net.ports)) same has,
+          subst (λ items. HasInputs n front new items (filter is_input (data_ports net))) same has,
           (
-            subst (λ items. (w : ℕ) → w < length net.wires → HasSharing new.wires items w) same sharings,
+            subst (λ items. (w : ℕ) → w < length net.wires → net.clock ≢ Some w → HasSharing new.wires items w) same sharings,
             (subst (λ items. length items ≡ length net.wires) same (c.set_sharing.ensures.full ∙ entered.full), c.requires.size),
           ),
         ),
@@ -106,6 +106,6 @@ returns g c =
     c.sharing_at-a.result.shares c.sharing_at-b.result.shares c.in_ok-sharing.sharing.shares
     c.requires.product facts c.in_ok-masked.ensures.net c.in_ok-masked.ensures.no_loop
     (c.in_ok-masked.ensures.small (c.in_ok-outputs.ensures.cells (c.in_ok-sharing.ensures.cells (c.in_ok-inputs.ensures.cells c.in_ok-builder.ensures.cells)))) c.in_ok-masked.ensures.runs
-    (subst (λ items. HasPorts n (first_ports (c.args.last + 1)) c.outputs.new.builder items net.ports) c.as_slice-3.ensures.value c.in_ok-outputs.ensures.ports)
+    (subst (λ items. HasPorts n (first_ports (c.args.last + 1)) c.outputs.new.builder items (data_ports net)) c.as_slice-3.ensures.value c.in_ok-outputs.ensures.ports)
     c.in_ok-outputs.ensures.adds a_is b_is c.set_sharing.ensures.set c.set_sharing.ensures.others
     (λ cycles bits run. (c.in_ok-sharing.ensures.value cycles bits run).1)

@@ -1,6 +1,6 @@
 use Rattle.std.proofs.Common.{sym, ap, subst, ◌∙◌}
 use Rattle.share_wiring.specs.Gates.{gate_formula}
-use Rattle.agm_net.specs.Simple.{IsCell}
+use Rattle.agm_net.specs.Small.{IsCell}
 use Rattle.share_wiring.proofs.builder.Builder.equate.Goals as goal
 
 pub returns-clause-cells : goal.returns-clause-cells

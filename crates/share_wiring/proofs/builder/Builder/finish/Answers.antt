@@ -7,7 +7,7 @@ use Rattle.agm_net.specs.Trace.{Row, IsTrace, bit_at}
 use Rattle.share_wiring.specs.Wiring.{Wiring, IsRun, net_of}
 use Rattle.share_wiring.proofs.FinishedNet.{well_formed, no_loop, runs, finished}
 use Rattle.agm_net.specs.PlainForm.{IsPlain}
-use Rattle.agm_net.specs.Simple.{IsSmallNet}
+use Rattle.agm_net.specs.Small.{IsSmallNet}
 use Rattle.share_wiring.specs.Cells.{AreCells}
 use Rattle.share_wiring.proofs.SmallNet.{is_plain, is_small}
 use Rattle.share_wiring.proofs.builder.Builder.finish.Goals as goal
