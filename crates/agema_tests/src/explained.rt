@@ -38,12 +38,18 @@ const LINES: [(u8, &[u8]); 23] = [
     (31, b"status 31 NotBuilt\n"),
 ];
 
-// The refusal of a status.
-fn refusal_of(alloc: Global, status: u8, name: Name, other: Name) -> Result<Refusal, Fail> {
+// The loop of these wires.
+fn loop_of(alloc: Global, name: Name, other: Name) -> Result<Refusal, Fail> {
+    let mut wires = List::new(alloc);
+    wires.push(name)?;
+    wires.push(other)?;
+    Ok(Refusal::Loop { wires })
+}
+
+// The refusal of a status that comes with names.
+fn named_refusal(alloc: Global, status: u8, name: Name, other: Name) -> Result<Refusal, Fail> {
     Ok(match status {
         10 => Refusal::TooLong { file: name },
-        11 => Refusal::LibrarySyntax { at: 13 },
-        12 => Refusal::NetSyntax { at: 21 },
         13 => Refusal::Cell {
             name,
             cause: CellCause::Reserved,
@@ -61,14 +67,23 @@ fn refusal_of(alloc: Global, status: u8, name: Name, other: Name) -> Result<Refu
             wire: name,
             drivers: 0,
         },
+        20 => loop_of(alloc, name, other)?,
+        29 => Refusal::BarredCell {
+            instance: name,
+            cell: other,
+            cause: Bar::Latch,
+        },
+        _ => Refusal::Clash { name },
+    })
+}
+
+// The refusal of a status.
+fn refusal_of(alloc: Global, status: u8, name: Name, other: Name) -> Result<Refusal, Fail> {
+    Ok(match status {
+        11 => Refusal::LibrarySyntax { at: 13 },
+        12 => Refusal::NetSyntax { at: 21 },
         18 => Refusal::Width { left: 1, right: 2 },
         19 => Refusal::Top { candidates: 2 },
-        20 => {
-            let mut wires = List::new(alloc);
-            wires.push(name)?;
-            wires.push(other)?;
-            Refusal::Loop { wires }
-        }
         21 => Refusal::BadAnnotation {
             fault: AnnotationFault::Value { port: 1 },
         },
@@ -78,13 +93,8 @@ fn refusal_of(alloc: Global, status: u8, name: Name, other: Name) -> Result<Refu
             stream: 1,
             step: 2,
         },
-        29 => Refusal::BarredCell {
-            instance: name,
-            cell: other,
-            cause: Bar::Latch,
-        },
-        30 => Refusal::Clash { name },
-        _ => Refusal::NotBuilt,
+        31 => Refusal::NotBuilt,
+        _ => named_refusal(alloc, status, name, other)?,
     })
 }
 

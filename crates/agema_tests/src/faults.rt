@@ -1,9 +1,9 @@
 //! Faults of files and of the output: each call in turn, and what the files hold afterwards.
 
 use crate::command::{Faults, NO_FAULTS, Outcome, run_over};
-use crate::product::PRODUCT;
 use std::alloc::Global;
 use std::test::Fail;
+use test_netlists::simple::PRODUCT;
 
 const COMMAND: &str = "mask - n.v 1 naive pipe o.v";
 

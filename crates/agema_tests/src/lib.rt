@@ -6,6 +6,8 @@ mod command;
 #[cfg(test)]
 mod complete;
 #[cfg(test)]
+mod evaluated;
+#[cfg(test)]
 mod explained;
 #[cfg(test)]
 mod faults;

@@ -1,9 +1,9 @@
 //! Cell libraries: which are refused, in which order, and that a netlist is masked beside one.
 
 use crate::command::{Faults, NO_FAULTS, left_nothing, run_with};
-use crate::product::PRODUCT;
 use std::alloc::Global;
 use std::test::Fail;
+use test_netlists::simple::PRODUCT;
 
 const COMMAND: &str = "mask l.lib n.v 1 naive pipe o.v";
 

@@ -3,16 +3,9 @@
 use crate::command::{NO_FAULTS, Outcome, run_over};
 use std::alloc::Global;
 use std::test::Fail;
+use test_netlists::simple::{CLOCKED_PRODUCT, PRODUCT, SQUARE};
 
-/// y = a & b.
-pub(crate) const PRODUCT: &str =
-    "module one(a, b, y); (* AGEMA = \"secure\" *) input a; (* AGEMA = \"secure\" *) input b; output y; AGM_AND2 u (.A(a), .B(b), .Y(y)); endmodule";
-
-/// y = x & x.
-pub(crate) const SQUARE: &str =
-    "module square(x, y); (* AGEMA = \"secure\" *) input x; output y; AGM_AND2 u (.A(x), .B(x), .Y(y)); endmodule";
-
-/// What is left at order 1: the report, the line, and the first bytes of the netlist.
+/// What is left at order 1: the report, the line, and the first bytes of the netlist. A clock in the original changes none of them.
 const PRODUCT_REPORT: &str =
     "{\"balance\":\"pipe\",\"gadgets\":1,\"latency\":2,\"mode\":\"naive\",\"order\":1,\"period\":3,\"ports\":[\"a\",\"b\",\"y\"],\"public_registers\":0,\"random\":1,\"secret_registers\":0,\"streams\":3,\"version\":1}";
 
@@ -53,6 +46,7 @@ fn prints(alloc: Global, line: &str, printed: &str) -> Result<bool, Fail> {
 fn masks_a_product(rt: HostRuntime) -> Result<(), Fail> {
     assert!(rt; masks(rt.alloc(), PRODUCT, PRODUCT_PORTS, PRODUCT_REPORT)?);
     assert!(rt; masks(rt.alloc(), SQUARE, SQUARE_PORTS, SQUARE_REPORT)?);
+    assert!(rt; masks(rt.alloc(), CLOCKED_PRODUCT, PRODUCT_PORTS, PRODUCT_REPORT)?);
     assert!(rt; prints(rt.alloc(), "mask - n.v 7 naive pipe o.v", LAST_LINE)?);
     Ok(())
 }

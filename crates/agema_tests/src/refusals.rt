@@ -1,9 +1,9 @@
 //! What is refused, and that nothing is written then.
 
 use crate::command::{Faults, NO_FAULTS, left_nothing, run_over};
-use crate::two_cells::TWO_CELLS;
 use std::alloc::Global;
 use std::test::Fail;
+use test_netlists::simple::TWO_CELLS;
 
 /// Lines whose words are no command, ask for what isn't built, or name a file that isn't there.
 const LINES: [(&str, &str); 18] = [

@@ -3,10 +3,7 @@
 use crate::command::{NO_FAULTS, run_over};
 use std::alloc::Global;
 use std::test::Fail;
-
-/// y = !(a ^ b).
-pub(crate) const TWO_CELLS: &str =
-    "module one(a, b, y); (* AGEMA = \"secure\" *) input a; (* AGEMA = \"secure\" *) input b; output y; wire x; AGM_XOR2 u (.A(a), .B(b), .Y(x)); AGM_NOT v (.A(x), .Y(y)); endmodule";
+use test_netlists::simple::TWO_CELLS;
 
 /// How its masked net begins. There is no random bit, so no port `agm_r`.
 const PORTS: &str =

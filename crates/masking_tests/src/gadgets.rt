@@ -4,10 +4,10 @@ ghost use Rattle.std.specs.Prelude.{◌≡◌, ◌≤◌, ◌+◌, ◌∷◌, []
 ghost use Rattle.share_wiring.specs.Wiring.{IsSharing};
 ghost use Rattle.share_wiring.specs.Adds.{random_bits};
 
-use crate::evaluator::{bit, next};
 use agm_bits::Memory;
 use agm_net::{Equation, Expr, Net, Range, Register};
 use hpc2_gadget::multiply;
+use plain_evaluator::Evaluator;
 use share_wiring::{Builder, Sharing};
 use std::alloc::{AllocError, Global};
 use std::test::Fail;
@@ -50,15 +50,14 @@ fn late_inverse(alloc: Global) -> Result<Net, Memory> {
     builder.finish()
 }
 
-// The bits in cycle 2 after three rows of inputs, where all registers begin with 1.
-fn after(alloc: Global, net: &Net, rows: &[[bool; 6]; 3]) -> Result<Vec<bool>, AllocError> {
-    let mut before = vec![in alloc; true; net.wires.len()]?;
+// A net run for three rows of inputs, where all registers begin with 1.
+fn after(alloc: Global, net: &Net, rows: &[[bool; 5]; 3]) -> Result<Evaluator, AllocError> {
+    let power_up = vec![in alloc; true; net.registers.len()]?;
+    let mut run = Evaluator::new(alloc, net, power_up.as_slice())?;
     for row in rows {
-        let mut now = vec![in alloc; true; net.wires.len()]?;
-        next(net, before.as_slice(), row.as_slice(), now.as_mut_slice());
-        before = now;
+        run.step(net, row.as_slice());
     }
-    Ok(before)
+    Ok(run)
 }
 
 fn wire(net: &Net, name: &[u8]) -> usize {
@@ -77,13 +76,13 @@ fn product(
     r: bool,
 ) -> Result<[bool; 2], AllocError> {
     let rows = [
-        [false, r, false, b[0], true, b[1]],
-        [false, true, a[0], true, a[1], false],
-        [false, false, true, false, true, true],
+        [r, false, b[0], true, b[1]],
+        [true, a[0], true, a[1], false],
+        [false, true, false, true, true],
     ];
-    let bits = after(alloc, net, &rows)?;
-    let low = bit(bits.as_slice(), wire(net, b"agm_g0.c[0]"));
-    let high = bit(bits.as_slice(), wire(net, b"agm_g0.c[1]"));
+    let run = after(alloc, net, &rows)?;
+    let low = run.bit(wire(net, b"agm_g0.c[0]"));
+    let high = run.bit(wire(net, b"agm_g0.c[1]"));
     Ok([low, high])
 }
 
@@ -104,52 +103,54 @@ fn multiplies_two_shares(rt: HostRuntime) -> Result<(), Fail> {
     Ok(())
 }
 
+/// The wires of the product of two bits in two shares.
+const PARTS: [&str; 39] = [
+    "agm_clk",
+    "agm_r[0]",
+    "agm_s0_x[1]",
+    "agm_s0_x[0]",
+    "agm_s1_x[1]",
+    "agm_s1_x[0]",
+    "agm_g0.clk",
+    "agm_g0.a[0]",
+    "agm_g0.a[1]",
+    "agm_g0.b[0]",
+    "agm_g0.b[1]",
+    "agm_g0.na_0",
+    "agm_g0.na_1",
+    "agm_g0.bb_0",
+    "agm_g0.mx_0",
+    "agm_g0.m_0",
+    "agm_g0.bb_1",
+    "agm_g0.mx_1",
+    "agm_g0.m_1",
+    "agm_g0.r[0]",
+    "agm_g0.rr_0_1",
+    "agm_g0.vx_0_1",
+    "agm_g0.v_0_1",
+    "agm_g0.ux_0_1",
+    "agm_g0.u_0_1",
+    "agm_g0.wx_0_1",
+    "agm_g0.w_0_1",
+    "agm_g0.vx_1_0",
+    "agm_g0.v_1_0",
+    "agm_g0.ux_1_0",
+    "agm_g0.u_1_0",
+    "agm_g0.wx_1_0",
+    "agm_g0.w_1_0",
+    "agm_g0.s_0_1",
+    "agm_g0.c[0]",
+    "agm_g0.s_1_1",
+    "agm_g0.c[1]",
+    "agm_d0.37",
+    "agm_d1.38",
+];
+
 #[test]
 fn names_the_parts(rt: HostRuntime) -> Result<(), Fail> {
     let net = two_shares(rt.alloc())?;
-    let names = [
-        "agm_clk",
-        "agm_r[0]",
-        "agm_s0_x[1]",
-        "agm_s0_x[0]",
-        "agm_s1_x[1]",
-        "agm_s1_x[0]",
-        "agm_g0.clk",
-        "agm_g0.a[0]",
-        "agm_g0.a[1]",
-        "agm_g0.b[0]",
-        "agm_g0.b[1]",
-        "agm_g0.na_0",
-        "agm_g0.na_1",
-        "agm_g0.bb_0",
-        "agm_g0.mx_0",
-        "agm_g0.m_0",
-        "agm_g0.bb_1",
-        "agm_g0.mx_1",
-        "agm_g0.m_1",
-        "agm_g0.r[0]",
-        "agm_g0.rr_0_1",
-        "agm_g0.vx_0_1",
-        "agm_g0.v_0_1",
-        "agm_g0.ux_0_1",
-        "agm_g0.u_0_1",
-        "agm_g0.wx_0_1",
-        "agm_g0.w_0_1",
-        "agm_g0.vx_1_0",
-        "agm_g0.v_1_0",
-        "agm_g0.ux_1_0",
-        "agm_g0.u_1_0",
-        "agm_g0.wx_1_0",
-        "agm_g0.w_1_0",
-        "agm_g0.s_0_1",
-        "agm_g0.c[0]",
-        "agm_g0.s_1_1",
-        "agm_g0.c[1]",
-        "agm_d0.37",
-        "agm_d1.38",
-    ];
-    assert_eq!(rt; net.wires.len(), names.len());
-    for (wire, name) in net.wires.as_slice().iter().zip(names.iter()) {
+    assert_eq!(rt; net.wires.len(), PARTS.len());
+    for (wire, name) in net.wires.as_slice().iter().zip(PARTS.iter()) {
         assert_eq!(rt; wire.as_slice(), name.as_bytes());
     }
     Ok(())

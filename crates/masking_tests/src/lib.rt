@@ -2,8 +2,6 @@
 #![tactic(auto)]
 
 #[cfg(test)]
-mod evaluator;
-#[cfg(test)]
 mod gadgets;
 #[cfg(test)]
 mod masked_nets;

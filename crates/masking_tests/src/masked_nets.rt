@@ -2,9 +2,9 @@
 
 ghost use Rattle.std.specs.Prelude.{◌≤◌};
 
-use crate::evaluator::{bit, next};
 use agm_bits::{List, Memory, Name};
 use agm_net::{Equation, Mark, Marks, Net, Port, Way};
+use plain_evaluator::{Evaluator, Shuffled};
 use share_wiring::{Gate, Masked};
 use simple_masking::{is_served, mask_net};
 use std::alloc::{AllocError, Global};
@@ -13,41 +13,75 @@ use std::test::Fail;
 /// The inputs of each step, and its outputs.
 type Steps = &'static [(&'static str, &'static str)];
 
-/// A net, whether it is a product, and its steps. Its wires are those of the inputs, of the outputs, and the inner ones, in this order;
-/// an equation is a wire and its gate.
+/// A net, whether it is a product, and its steps. Its wires are those of the ports and the inner ones, in this order; an equation is a
+/// wire and its gate. A step has a bit for each input but the clock, and one for each output.
 struct Example {
     name: &'static str,
-    inputs: &'static [&'static str],
-    outputs: &'static [&'static str],
+    ports: &'static [(&'static str, Way)],
+    clock: Option<usize>,
     inner: &'static [&'static str],
     equations: &'static [(usize, Gate)],
     is_product: bool,
     steps: Steps,
 }
 
-const EXAMPLES: [Example; 3] = [
+const TWO_IN: &[(&str, Way)] = &[("a", Way::Input), ("b", Way::Input), ("y", Way::Output)];
+
+const CLOCK_FIRST: &[(&str, Way)] = &[
+    ("clk", Way::Input),
+    ("a", Way::Input),
+    ("b", Way::Input),
+    ("y", Way::Output),
+];
+
+const CLOCK_BETWEEN: &[(&str, Way)] = &[
+    ("a", Way::Input),
+    ("clk", Way::Input),
+    ("y", Way::Output),
+    ("b", Way::Input),
+];
+
+const CLOCK_LAST: &[(&str, Way)] = &[
+    ("a", Way::Input),
+    ("b", Way::Input),
+    ("y", Way::Output),
+    ("clk", Way::Input),
+];
+
+const SUM: Steps = &[("00", "0"), ("10", "1"), ("01", "1"), ("11", "0")];
+
+const PRODUCT: Steps = &[("00", "0"), ("11", "1"), ("01", "0"), ("10", "0")];
+
+const EXAMPLES: [Example; 9] = [
     Example {
         name: "sum",
-        inputs: &["a", "b"],
-        outputs: &["y"],
+        ports: TWO_IN,
+        clock: None,
         inner: &[],
         equations: &[(2, Gate::Xor(0, 1))],
         is_product: false,
-        steps: &[("00", "0"), ("10", "1"), ("01", "1"), ("11", "0")],
+        steps: SUM,
     },
     Example {
         name: "one",
-        inputs: &["a", "b"],
-        outputs: &["y"],
+        ports: TWO_IN,
+        clock: None,
         inner: &[],
         equations: &[(2, Gate::And(0, 1))],
         is_product: true,
-        steps: &[("00", "0"), ("11", "1"), ("01", "0"), ("10", "0")],
+        steps: PRODUCT,
     },
     Example {
         name: "five",
-        inputs: &["a", "b", "c", "d"],
-        outputs: &["y", "z"],
+        ports: &[
+            ("a", Way::Input),
+            ("b", Way::Input),
+            ("c", Way::Input),
+            ("d", Way::Input),
+            ("y", Way::Output),
+            ("z", Way::Output),
+        ],
+        clock: None,
         inner: &["p", "q", "r"],
         equations: &[
             (6, Gate::Xor(0, 1)),
@@ -66,32 +100,85 @@ const EXAMPLES: [Example; 3] = [
             ("1011", "00"),
         ],
     },
+    Example {
+        name: "sum behind a clock",
+        ports: CLOCK_FIRST,
+        clock: Some(0),
+        inner: &[],
+        equations: &[(3, Gate::Xor(1, 2))],
+        is_product: false,
+        steps: SUM,
+    },
+    Example {
+        name: "sum round a clock",
+        ports: CLOCK_BETWEEN,
+        clock: Some(1),
+        inner: &[],
+        equations: &[(2, Gate::Xor(0, 3))],
+        is_product: false,
+        steps: SUM,
+    },
+    Example {
+        name: "sum before a clock",
+        ports: CLOCK_LAST,
+        clock: Some(3),
+        inner: &[],
+        equations: &[(2, Gate::Xor(0, 1))],
+        is_product: false,
+        steps: SUM,
+    },
+    Example {
+        name: "product behind a clock",
+        ports: CLOCK_FIRST,
+        clock: Some(0),
+        inner: &[],
+        equations: &[(3, Gate::And(1, 2))],
+        is_product: true,
+        steps: PRODUCT,
+    },
+    Example {
+        name: "product round a clock",
+        ports: CLOCK_BETWEEN,
+        clock: Some(1),
+        inner: &[],
+        equations: &[(2, Gate::And(0, 3))],
+        is_product: true,
+        steps: PRODUCT,
+    },
+    Example {
+        name: "product before a clock",
+        ports: CLOCK_LAST,
+        clock: Some(3),
+        inner: &[],
+        equations: &[(2, Gate::And(0, 1))],
+        is_product: true,
+        steps: PRODUCT,
+    },
 ];
 
-// Adds ports of one bit each, from the number of the first one's wire.
-fn push_ports(
-    alloc: Global,
-    ports: &mut List<Port>,
-    way: Way,
-    first: usize,
-    names: &[&str],
-) -> Result<(), Memory> {
-    for (k, name) in names.iter().enumerate() {
+// Ports of one bit each, the first wires.
+fn ports_of(alloc: Global, rows: &[(&str, Way)]) -> Result<List<Port>, Memory> {
+    let mut ports = List::new(alloc);
+    for (k, (name, way)) in rows.iter().enumerate() {
         ports.push(Port {
             name: Name::from_slice(alloc, name.as_bytes())?,
-            way,
+            way: *way,
             range: None,
-            bits: List::from_slice(alloc, &[first.wrapping_add(k)])?,
+            bits: List::from_slice(alloc, &[k])?,
         })?;
     }
-    Ok(())
+    Ok(ports)
 }
 
-fn push_wires(alloc: Global, wires: &mut List<Name>, names: &[&str]) -> Result<(), Memory> {
-    for name in names {
+fn wires_of(alloc: Global, example: &Example) -> Result<List<Name>, Memory> {
+    let mut wires = List::new(alloc);
+    for (name, _) in example.ports {
         wires.push(Name::from_slice(alloc, name.as_bytes())?)?;
     }
-    Ok(())
+    for name in example.inner {
+        wires.push(Name::from_slice(alloc, name.as_bytes())?)?;
+    }
+    Ok(wires)
 }
 
 fn equations_of(alloc: Global, rows: &[(usize, Gate)]) -> Result<List<Equation>, Memory> {
@@ -107,34 +194,37 @@ fn equations_of(alloc: Global, rows: &[(usize, Gate)]) -> Result<List<Equation>,
 
 // The net of an example.
 fn net_of(alloc: Global, example: &Example) -> Result<Net, Fail> {
-    let mut ports = List::new(alloc);
-    push_ports(alloc, &mut ports, Way::Input, 0, example.inputs)?;
-    push_ports(
-        alloc,
-        &mut ports,
-        Way::Output,
-        example.inputs.len(),
-        example.outputs,
-    )?;
-    let mut wires = List::new(alloc);
-    push_wires(alloc, &mut wires, example.inputs)?;
-    push_wires(alloc, &mut wires, example.outputs)?;
-    push_wires(alloc, &mut wires, example.inner)?;
+    let ports = ports_of(alloc, example.ports)?;
+    let wires = wires_of(alloc, example)?;
     let equations = equations_of(alloc, example.equations)?;
-    match Net::new(alloc, ports, wires, equations, List::new(alloc), None) {
+    match Net::new(
+        alloc,
+        ports,
+        wires,
+        equations,
+        List::new(alloc),
+        example.clock,
+    ) {
         Ok(net) => Ok(net),
         Err(_) => Err(Fail::from("the parts make no net")),
     }
 }
 
-// Its marks: inputs are secure, outputs unmarked.
+// The mark of the port of a number: the clock's, and inputs are secure, outputs unmarked.
+fn mark_of(clock: Option<usize>, number: usize, way: Way) -> Mark {
+    if clock == Some(number) {
+        return Mark::Clock;
+    }
+    match way {
+        Way::Input => Mark::Secure,
+        Way::Output => Mark::Unmarked,
+    }
+}
+
 fn marks_of(alloc: Global, example: &Example) -> Result<Marks, Memory> {
     let mut kinds = List::new(alloc);
-    for _ in example.inputs {
-        kinds.push(Mark::Secure)?;
-    }
-    for _ in example.outputs {
-        kinds.push(Mark::Unmarked)?;
+    for (number, (_, way)) in example.ports.iter().enumerate() {
+        kinds.push(mark_of(example.clock, number, *way))?;
     }
     Ok(Marks { kinds })
 }
@@ -151,22 +241,20 @@ fn masked_of(alloc: Global, example: &Example, order: u32) -> Result<Masked, Fai
     Ok(mask_net(alloc, &net, &marks, order)?)
 }
 
-// Adds the names of the shares of ports.
+// Adds the names of the shares of a port.
 fn push_names(
     alloc: Global,
     names: &mut Vec<String>,
     order: u32,
-    ports: &[&str],
+    port: &str,
 ) -> Result<(), AllocError> {
-    for port in ports {
-        for i in 0..=order {
-            names.push(format!(in alloc; "agm_s{i}_{port}")?)?;
-        }
+    for i in 0..=order {
+        names.push(format!(in alloc; "agm_s{i}_{port}")?)?;
     }
     Ok(())
 }
 
-// The names of the masked net's ports.
+// The names of the masked net's ports: none stands for the clock.
 fn names_of(alloc: Global, example: &Example, order: u32) -> Result<Vec<String>, AllocError> {
     let mut names = Vec::new(alloc);
     names.push(format!(in alloc; "agm_clk")?)?;
@@ -174,9 +262,34 @@ fn names_of(alloc: Global, example: &Example, order: u32) -> Result<Vec<String>,
     if example.is_product {
         names.push(format!(in alloc; "agm_r")?)?;
     }
-    push_names(alloc, &mut names, order, example.inputs)?;
-    push_names(alloc, &mut names, order, example.outputs)?;
+    for (number, (port, _)) in example.ports.iter().enumerate() {
+        if example.clock != Some(number) {
+            push_names(alloc, &mut names, order, port)?;
+        }
+    }
     Ok(names)
+}
+
+// Whether the name at a place is that of a port.
+fn is_name_at(listed: &[Name], place: usize, port: &str) -> bool {
+    match listed.get(place) {
+        Some(name) => name.as_slice() == port.as_bytes(),
+        None => false,
+    }
+}
+
+// Whether a report lists each port but the clock's.
+fn are_listed(listed: &[Name], example: &Example) -> bool {
+    let mut place = 0usize;
+    for (number, (port, _)) in example.ports.iter().enumerate() {
+        if example.clock != Some(number) {
+            if !is_name_at(listed, place, port) {
+                return false;
+            }
+            place = place.wrapping_add(1);
+        }
+    }
+    place == listed.len()
 }
 
 // Whether the masked net has these ports, and the report these numbers.
@@ -190,6 +303,7 @@ fn is_shaped(masked: &Masked, names: &[String], example: &Example, order: u32) -
     let (gadgets, latency) = if example.is_product { (1, 2) } else { (0, 0) };
     let order_bits = usize::try_from(order).unwrap_or(0);
     are_named
+        && are_listed(report.ports.as_slice(), example)
         && ports.len() == names.len()
         && report.order == order
         && report.gadgets == gadgets
@@ -197,22 +311,6 @@ fn is_shaped(masked: &Masked, names: &[String], example: &Example, order: u32) -
         && report.latency == latency
         && report.period == latency + 1
         && report.streams == latency + 1
-}
-
-// Bits that look random, by a linear congruential generator.
-#[derive(Drop)]
-struct Shuffled {
-    state: u32,
-}
-
-impl Shuffled {
-    fn next_bit(&mut self) -> bool {
-        self.state = self
-            .state
-            .wrapping_mul(1_664_525)
-            .wrapping_add(1_013_904_223);
-        self.state >= 1 << 31
-    }
 }
 
 // Adds the shares of a bit, all but the last of which are drawn.
@@ -232,7 +330,7 @@ fn push_shares(
     Ok(())
 }
 
-// The bits of the first wires in a cycle: the clock, the load signal, random bits, and the shares of each input.
+// The input bits of a cycle: the load signal, random bits, and the shares of each input.
 fn row_of(
     alloc: Global,
     masked: &Masked,
@@ -241,7 +339,6 @@ fn row_of(
     drawn: &mut Shuffled,
 ) -> Result<Vec<bool>, AllocError> {
     let mut row = Vec::new(alloc);
-    row.push(false)?;
     row.push(load)?;
     for _ in 0..masked.report.random {
         row.push(drawn.next_bit())?;
@@ -253,29 +350,33 @@ fn row_of(
 }
 
 // What the shares of a port recombine to.
-fn recombined(alloc: Global, masked: &Masked, bits: &[bool], port: &str) -> Result<bool, Fail> {
+fn recombined(alloc: Global, masked: &Masked, run: &Evaluator, port: &str) -> Result<bool, Fail> {
     let mut secret = false;
     for index in 0..=masked.report.order {
         let name = format!(in alloc; "agm_s{index}_{port}")?;
         match masked.net.wire(name.as_bytes()) {
-            Some(wire) => secret = secret != bit(bits, wire),
+            Some(wire) => secret = secret != run.bit(wire),
             None => return Err(Fail::from("a share is missing")),
         }
     }
     Ok(secret)
 }
 
-// Whether the outputs of these names recombine to these bits.
+// Whether the outputs recombine to these bits.
 fn are_outputs(
     alloc: Global,
     masked: &Masked,
-    bits: &[bool],
-    names: &[&str],
+    run: &Evaluator,
+    ports: &[(&str, Way)],
     wanted: &str,
 ) -> Result<bool, Fail> {
-    for (name, value) in names.iter().zip(wanted.as_bytes()) {
-        if recombined(alloc, masked, bits, name)? != (*value == b'1') {
-            return Ok(false);
+    let mut left = wanted.as_bytes().iter();
+    for (name, way) in ports {
+        if *way == Way::Output {
+            let value = left.next() == Some(&b'1');
+            if recombined(alloc, masked, run, name)? != value {
+                return Ok(false);
+            }
         }
     }
     Ok(true)
@@ -297,21 +398,15 @@ fn is_right(
     example: &Example,
     drawn: &mut Shuffled,
 ) -> Result<bool, Fail> {
-    let mut bits = vec![in alloc; true; masked.net.wires.len()]?;
+    let power_up = vec![in alloc; true; masked.net.registers.len()]?;
+    let mut run = Evaluator::new(alloc, &masked.net, power_up.as_slice())?;
     for cycle in 0..16usize {
         let (inputs, _) = step(example.steps, cycle);
         let row = row_of(alloc, masked, cycle < masked.report.period, inputs, drawn)?;
-        let mut now = vec![in alloc; true; masked.net.wires.len()]?;
-        next(
-            &masked.net,
-            bits.as_slice(),
-            row.as_slice(),
-            now.as_mut_slice(),
-        );
-        bits = now;
+        run.step(&masked.net, row.as_slice());
         if cycle > masked.report.latency {
             let (_, wanted) = step(example.steps, cycle - masked.report.latency);
-            if !are_outputs(alloc, masked, bits.as_slice(), example.outputs, wanted)? {
+            if !are_outputs(alloc, masked, &run, example.ports, wanted)? {
                 return Ok(false);
             }
         }
@@ -323,7 +418,7 @@ fn is_right(
 fn is_masked(alloc: Global, example: &Example, order: u32) -> Result<bool, Fail>
     requires { (1 ≤ order) × (order ≤ 7) }
 {
-    let mut drawn = Shuffled { state: order };
+    let mut drawn = Shuffled::new(order);
     let masked = masked_of(alloc, example, order)?;
     let names = names_of(alloc, example, order)?;
     Ok(
@@ -347,9 +442,20 @@ fn masks_at_every_order(rt: HostRuntime) -> Result<(), Fail> {
     Ok(())
 }
 
-// How many wires, equations and registers each masked net has at order 1. The product: the clock, the load signal, a random bit and four
-// shares of inputs; the delay of a; the 31 parts of the gadget, 11 of which are registers; its copies; and two shares of y.
-const COUNTS: [(usize, usize, usize); 3] = [(10, 4, 0), (44, 24, 13), (24, 14, 0)];
+// How many wires, equations and registers each masked net has at order 1, with a clock in the original or without. The product: the
+// clock, the load signal, a random bit and four shares of inputs; the delay of a; the 31 parts of the gadget, 11 of which are registers;
+// its copies; and two shares of y.
+const COUNTS: [(usize, usize, usize); 9] = [
+    (10, 4, 0),
+    (44, 24, 13),
+    (24, 14, 0),
+    (10, 4, 0),
+    (10, 4, 0),
+    (10, 4, 0),
+    (44, 24, 13),
+    (44, 24, 13),
+    (44, 24, 13),
+];
 
 #[test]
 fn counts_at_order_one(rt: HostRuntime) -> Result<(), Fail> {

@@ -50,6 +50,29 @@ const RESERVED: &[PortRow] = &[
     ("y", Way::Output, None, &[2]),
 ];
 
+const CLOCK_FIRST: &[PortRow] = &[
+    ("clk", Way::Input, None, &[0]),
+    ("a", Way::Input, None, &[1]),
+    ("b", Way::Input, None, &[2]),
+    ("y", Way::Output, None, &[3]),
+];
+
+const CLOCK_BETWEEN: &[PortRow] = &[
+    ("a", Way::Input, None, &[0]),
+    ("clk", Way::Input, None, &[1]),
+    ("b", Way::Input, None, &[2]),
+    ("y", Way::Output, None, &[3]),
+];
+
+const CLOCK_LAST: &[PortRow] = &[
+    ("a", Way::Input, None, &[0]),
+    ("b", Way::Input, None, &[1]),
+    ("y", Way::Output, None, &[2]),
+    ("clk", Way::Input, None, &[3]),
+];
+
+const CLOCK_ALONE: &[PortRow] = &[("clk", Way::Input, None, &[0])];
+
 const INPUTS: &[PortRow] = &[("a", Way::Input, None, &[0]), ("b", Way::Input, None, &[1])];
 
 const WIRES: &[&str] = &["a", "b", "y"];
@@ -71,7 +94,94 @@ const SUM_OF_TWO: Sample = Sample {
     is_served: true,
 };
 
-const SAMPLES: [Sample; 22] = [
+const CLOCKED_FIRST: Sample = Sample {
+    what: "a clock that stands first",
+    ports: CLOCK_FIRST,
+    wires: &["clk", "a", "b", "y"],
+    equations: &[(3, Gate::Xor(1, 2))],
+    registers: &[],
+    clock: Some(0),
+    marks: &[Mark::Clock, Mark::Secure, Mark::Secure, Mark::Unmarked],
+    is_served: true,
+};
+
+const CLOCKED_BETWEEN: Sample = Sample {
+    what: "a clock between inputs",
+    ports: CLOCK_BETWEEN,
+    wires: &["a", "clk", "b", "y"],
+    equations: &[(3, Gate::Xor(0, 2))],
+    registers: &[],
+    clock: Some(1),
+    marks: &[Mark::Secure, Mark::Clock, Mark::Secure, Mark::Unmarked],
+    is_served: true,
+};
+
+const CLOCKED_LAST: Sample = Sample {
+    what: "a clock that stands last",
+    ports: CLOCK_LAST,
+    wires: &["a", "b", "y", "clk"],
+    equations: SUM,
+    registers: &[],
+    clock: Some(3),
+    marks: &[Mark::Secure, Mark::Secure, Mark::Unmarked, Mark::Clock],
+    is_served: true,
+};
+
+const CLOCKED: [Sample; 11] = [
+    CLOCKED_FIRST,
+    CLOCKED_BETWEEN,
+    CLOCKED_LAST,
+    Sample {
+        what: "a product behind a clock",
+        equations: &[(3, Gate::And(1, 2))],
+        ..CLOCKED_FIRST
+    },
+    Sample {
+        what: "a product round a clock",
+        equations: &[(3, Gate::And(2, 0))],
+        ..CLOCKED_BETWEEN
+    },
+    Sample {
+        what: "a product before a clock",
+        equations: &[(2, Gate::And(0, 1))],
+        ..CLOCKED_LAST
+    },
+    Sample {
+        what: "a clock that is read",
+        equations: &[(3, Gate::Xor(0, 1))],
+        is_served: false,
+        ..CLOCKED_FIRST
+    },
+    Sample {
+        what: "a product of a clock",
+        equations: &[(3, Gate::And(0, 1))],
+        is_served: false,
+        ..CLOCKED_BETWEEN
+    },
+    Sample {
+        what: "a clock marked secure",
+        marks: &[Mark::Secure, Mark::Secure, Mark::Secure, Mark::Unmarked],
+        is_served: false,
+        ..CLOCKED_FIRST
+    },
+    Sample {
+        what: "an unmarked input beside a clock",
+        marks: &[Mark::Secure, Mark::Unmarked, Mark::Unmarked, Mark::Clock],
+        is_served: false,
+        ..CLOCKED_LAST
+    },
+    Sample {
+        what: "no input but the clock",
+        ports: CLOCK_ALONE,
+        wires: &["clk"],
+        equations: &[],
+        marks: &[Mark::Clock],
+        is_served: false,
+        ..CLOCKED_FIRST
+    },
+];
+
+const SAMPLES: [Sample; 21] = [
     SUM_OF_TWO,
     Sample {
         what: "an output marked secure",
@@ -149,12 +259,6 @@ const SAMPLES: [Sample; 22] = [
         what: "a register",
         equations: &[],
         registers: &[(2, 0, 1)],
-        is_served: false,
-        ..SUM_OF_TWO
-    },
-    Sample {
-        what: "a clock",
-        clock: Some(1),
         is_served: false,
         ..SUM_OF_TWO
     },
@@ -288,5 +392,11 @@ fn first_wrong(alloc: Global, samples: &[Sample]) -> Result<&'static str, Fail> 
 #[test]
 fn tells_which_nets_are_masked(rt: HostRuntime) -> Result<(), Fail> {
     assert_eq!(rt; first_wrong(rt.alloc(), SAMPLES.as_slice())?, "none");
+    Ok(())
+}
+
+#[test]
+fn tells_which_nets_with_a_clock_are_masked(rt: HostRuntime) -> Result<(), Fail> {
+    assert_eq!(rt; first_wrong(rt.alloc(), CLOCKED.as_slice())?, "none");
     Ok(())
 }
