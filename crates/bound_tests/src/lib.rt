@@ -3,3 +3,5 @@
 
 #[cfg(test)]
 mod bound_designs;
+#[cfg(test)]
+mod forms_of_one_design;
