@@ -4,6 +4,7 @@ pub mod WellFormed
 pub mod Checks
 pub mod Refusal
 pub mod Trace
+pub mod Run
 pub mod Loop
 pub mod Secret
 pub mod Role
