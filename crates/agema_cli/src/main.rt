@@ -1,6 +1,10 @@
 //! The program: it runs the command of its words over the files of the system and the standard output.
 #![tactic(auto)]
 
+ghost use Rattle.std.specs.Prelude.{◌≡◌};
+ghost use Rattle.std.specs.Process.{exit_status};
+ghost use Rattle.agema_answers.specs.Status.{status_of};
+
 mod help;
 
 use crate::help::{HELP, VERSION};
@@ -47,14 +51,19 @@ fn tell(rt: HostRuntime, ended: &Ended) {
     }
 }
 
-// The status of a run of the command that the words are.
-fn status_of(rt: HostRuntime, words: &[String]) -> u8 {
-    let alloc = rt.alloc();
+// Tells how a run ended, and answers with its status.
+fn end(rt: HostRuntime, ended: &Ended) -> ExitCode
+    ensures { exit_status result ≡ status_of ended.now }
+{
+    tell(rt, ended);
+    ExitCode::from(ended.status())
+}
+
+// Runs the command that the words are.
+fn run_words(rt: HostRuntime, words: &[String]) -> ExitCode {
     let mut shelf = FilesShelf::new(rt);
     let mut sink = StdSink::new(rt);
-    let ended: Ended = run(alloc, words, &mut shelf, &mut sink);
-    tell(rt, &ended);
-    ended.status()
+    end(rt, &run(rt.alloc(), words, &mut shelf, &mut sink))
 }
 
 fn main(rt: HostRuntime) -> ExitCode {
@@ -70,6 +79,6 @@ fn main(rt: HostRuntime) -> ExitCode {
             Ok(()) => ExitCode::from(0),
             Err(_) => ExitCode::from(NOT_PRINTED),
         },
-        None => ExitCode::from(status_of(rt, words.as_slice())),
+        None => run_words(rt, words.as_slice()),
     }
 }

@@ -4,26 +4,12 @@
 #[cfg(test)]
 mod command;
 #[cfg(test)]
-mod complete;
-#[cfg(test)]
-mod evaluated;
-#[cfg(test)]
 mod explained;
 #[cfg(test)]
 mod faults;
 #[cfg(test)]
-mod libraries;
-#[cfg(test)]
 mod limits;
 #[cfg(test)]
-mod netlists;
-#[cfg(test)]
-mod product;
-#[cfg(test)]
-mod refusals;
-#[cfg(test)]
-mod sims;
-#[cfg(test)]
-mod two_cells;
+mod memory;
 #[cfg(test)]
 mod written_nets;

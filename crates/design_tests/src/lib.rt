@@ -3,5 +3,3 @@
 
 #[cfg(test)]
 mod annotations_of_designs;
-#[cfg(test)]
-mod top_modules;

@@ -11,3 +11,7 @@ mod graphs;
 mod printed_runs;
 #[cfg(test)]
 mod simulated_nets;
+#[cfg(test)]
+mod stimulus_nets;
+#[cfg(test)]
+mod stimuli;

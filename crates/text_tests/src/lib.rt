@@ -2,13 +2,9 @@
 #![tactic(auto)]
 
 #[cfg(test)]
-mod cell_libraries;
-#[cfg(test)]
 mod fitting;
 #[cfg(test)]
-mod functions;
-#[cfg(test)]
-mod liberty_tokens;
+mod nested_groups;
 #[cfg(test)]
 mod small_texts;
 #[cfg(test)]
