@@ -1,6 +1,9 @@
 pub mod Counts
+pub mod Driving
 pub mod Finds
 pub mod FirstBad
+pub mod Formulas
+pub mod Lists
 pub mod Made
 pub mod Named
 pub mod Nets
@@ -9,3 +12,4 @@ pub mod PlainForm
 pub mod Ports
 pub mod Repeats
 pub mod ShareIndex
+pub mod Wires
