@@ -71,6 +71,14 @@ reads_first (l ∷ ls) n w v other once last =
           | inr apart ↦ rw apart (no_reads ks (sym (ap (λ b. b || list_any (λ j. j.0 == w) ks) apart) ∙ none))
         ]
 
+-- what is read in a cycle is read
+pub now_is_ever : (d : Driver) (v : ℕ) → IsTrue (reads_now d v) → IsTrue (reads_ever d v)
+now_is_ever (d_equation f) v h = h
+now_is_ever (d_input n) v h = h
+now_is_ever d_clock v h = h
+now_is_ever (d_register n next) v h = absurd (let no : false ≡ true = h in cc)
+now_is_ever d_nothing v h = h
+
 module _ (net : PlainNet) (well : WellFormed net) where
   -- what stands in a net for a wire stands for one of its wires
   pub driven_is_wire : (d : Driver) (w : ℕ) → Drives net d w → w < length net.wires

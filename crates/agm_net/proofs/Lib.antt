@@ -10,6 +10,10 @@ pub mod Nets
 pub mod Parts
 pub mod PlainForm
 pub mod Ports
+pub mod Ranks
 pub mod Repeats
+pub mod Runs
 pub mod ShareIndex
+pub mod Traces
 pub mod Wires
+pub mod Worlds

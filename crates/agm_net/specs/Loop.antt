@@ -1,5 +1,5 @@
 -- Which wires an equation reads, and loops among equations.
-use Rattle.std.specs.Prelude.{◌==◌, ℕ, Bool, ◌&&◌, List, [], ◌∷◌, IsTrue}
+use Rattle.std.specs.Prelude.{◌==◌, ◌<◌, ℕ, Bool, ◌&&◌, List, [], ◌∷◌, length, IsTrue}
 use Rattle.std.specs.List.{list_any}
 use Rattle.agm_net.specs.Formula.{stands}
 use Rattle.agm_net.specs.Plain.{PlainNet}
@@ -24,3 +24,9 @@ IsLoop net (w ∷ ws) = IsChain (reads net) w ws × IsTrue (reads net (last_of w
 
 abbrev pub HasNoLoop : PlainNet → Type 0
 HasNoLoop net = (ws : List ℕ) → IsLoop net ws → Prim.⊥
+
+-- Ranks of wires, each below their number, such that a wire reads only wires of lower rank.
+pub record IsRanked (net : PlainNet) : Type 0 where
+  pub rank : ℕ → ℕ
+  pub few : (w : ℕ) → w < length net.wires → rank w < length net.wires
+  pub lower : (w v : ℕ) → IsTrue (reads net w v) → rank v < rank w
