@@ -175,6 +175,14 @@ module _ (net : PlainNet) (well : WellFormed net) where
         | inr none ↦ (let zero_all = count_none (λ (l : Line). l.0 == w) net.lines none in omega arith)
       ]
 
+  -- and stands at one place among the input bits at most
+  pub input_once : (w : ℕ) → times w (input_bits net) ≤ 1
+  input_once w =
+      elim (cases_Bool (list_any (λ b. b == w) (input_bits net))) [
+        | inl some ↦ (let one = one_way net well w (found_of_all (λ v. v < length net.wires) (input_bits net) (inputs_are_wires net well) w some) in omega arith)
+        | inr none ↦ (let zero_all = count_none (λ b. b == w) (input_bits net) none in omega arith)
+      ]
+
   -- a wire reads what its driver reads in the same cycle
   pub reads_is : (w v : ℕ) → reads net w v ≡ reads_now (driver net w) v
   reads_is w v =

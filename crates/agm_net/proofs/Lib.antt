@@ -3,6 +3,7 @@ pub mod Driving
 pub mod Finds
 pub mod FirstBad
 pub mod Formulas
+pub mod InOrder
 pub mod Lists
 pub mod Made
 pub mod Named

@@ -2,11 +2,14 @@
 use Rattle.std.specs.Prelude.{◌==◌, ◌<◌, ℕ, Bool, ◌&&◌, List, [], ◌∷◌, length, IsTrue}
 use Rattle.std.specs.List.{list_any}
 use Rattle.agm_net.specs.Formula.{stands}
-use Rattle.agm_net.specs.Plain.{PlainNet}
+use Rattle.agm_net.specs.Plain.{Line, PlainNet}
 
--- whether wire w reads wire v: v stands in the expression of an equation of w
+-- whether wire w reads wire v by these equations: v stands in the expression of an equation of w
+abbrev pub reads_in : List Line → ℕ → ℕ → Bool
+reads_in lines w v = list_any (λ l. (l.0 == w) && stands v l.1) lines
+
 abbrev pub reads : PlainNet → ℕ → ℕ → Bool
-reads net w v = list_any (λ l. (l.0 == w) && stands v l.1) net.lines
+reads net = reads_in net.lines
 
 -- each wire of w and the list is related to the one behind it
 abbrev pub IsChain : (ℕ → ℕ → Bool) → ℕ → List ℕ → Type 0

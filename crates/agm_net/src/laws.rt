@@ -1,10 +1,12 @@
 //! Laws of a net's run.
 
-ghost use Rattle.std.specs.Prelude.{◌≡◌, ◌<◌, ◌≤◌, ◌↔◌, ℕ, List, length, IsTrue};
+ghost use Rattle.std.specs.Prelude.{◌≡◌, ◌<◌, ◌≤◌, ◌↔◌, ℕ, Bool, List, length, IsTrue};
+ghost use Rattle.std.specs.List.{AllByRecursion};
 ghost use Rattle.agm_net.specs.Loop.{reads, HasNoLoop, IsRanked};
-ghost use Rattle.agm_net.specs.Plain.{PlainNet};
+ghost use Rattle.agm_net.specs.Plain.{Line, PlainNet};
 ghost use Rattle.agm_net.specs.Run.{Driver, Drives, driver, reads_now, reads_ever, bit_in, run_of, KeepsDrivers, Fits};
-ghost use Rattle.agm_net.specs.Trace.{Row, row_at, bit_at, IsTrace};
+ghost use Rattle.agm_net.specs.Small.{InOrder, IsFresh};
+ghost use Rattle.agm_net.specs.Trace.{Row, Holds, row_at, bit_at, IsTrace};
 ghost use Rattle.agm_net.specs.WellFormed.{WellFormed};
 
 /// Each wire of a net has a driver that stands in the net.
@@ -57,4 +59,15 @@ pub fn trace_has_bits()
 pub fn runs_look_back()
     ensures { (net : PlainNet) (power : Row) (tape other : List Row) (t : ℕ) → WellFormed net → HasNoLoop net → ((s : ℕ) → s ≤ t → row_at tape s ≡ row_at other s) →
         (s w : ℕ) → s ≤ t → w < length net.wires → bit_in net power tape s w ≡ bit_in net power other s w }
+{}
+
+/// Equations in order, each for a wire of its own, have no loop.
+pub fn order_has_no_loop()
+    ensures { (net : PlainNet) (known : ℕ → Bool) → IsFresh known net.lines → HasNoLoop net }
+{}
+
+/// Two rows of bits that solve equations in order and agree on what is known agree on the equations' wires.
+pub fn one_solution()
+    ensures { (known : ℕ → Bool) (lines : List Line) (x y : ℕ → Bool) → InOrder known lines → Holds x lines → Holds y lines →
+        ((w : ℕ) → IsTrue (known w) → x w ≡ y w) → AllByRecursion (λ l. x l.0 ≡ y l.0) lines }
 {}
