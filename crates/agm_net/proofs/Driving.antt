@@ -5,7 +5,7 @@ use Rattle.std.proofs.lemmas.Bool.{eqb-true, cases_Bool}
 use Rattle.agm_net.specs.Formula.{stands, reads_below}
 use Rattle.agm_net.specs.Loop.{reads}
 use Rattle.agm_net.specs.Plain.{Line, Stored, PlainNet, input_bits, clock_bits}
-use Rattle.agm_net.specs.Run.{Driver, d_input, d_clock, d_equation, d_register, d_nothing, Drives, first_driver, driver, reads_now, reads_ever}
+use Rattle.agm_net.specs.Run.{Driver, d_input, d_clock, d_equation, d_register, d_nothing, HasDriver, first_driver, driver, reads_now, reads_ever}
 use Rattle.agm_net.specs.WellFormed.{WellFormed}
 use Rattle.agm_net.proofs.Formulas.{reads_are_below}
 use Rattle.agm_net.proofs.Lists.{all_of_one, any_at, count_more, count_none, count_some, count_yes, found_of_all, none_counted, place_of_any}
@@ -81,7 +81,7 @@ now_is_ever d_nothing v h = h
 
 module _ (net : PlainNet) (well : WellFormed net) where
   -- what stands in a net for a wire stands for one of its wires
-  pub driven_is_wire : (d : Driver) (w : ℕ) → Drives net d w → w < length net.wires
+  pub driven_is_wire : (d : Driver) (w : ℕ) → HasDriver net d w → w < length net.wires
   driven_is_wire (d_input n) w h = all_of_one (λ v. v < length net.wires) (input_bits net) n w (inputs_are_wires net well) h
   driven_is_wire d_clock w h = found_of_all (λ v. v < length net.wires) (clock_bits net) (clock_is_wire net well) w h
   driven_is_wire (d_equation f) w h = (all_of_one (λ (l : Line). (l.0 < length net.wires) × IsTrue (reads_below (length net.wires) l.1)) net.lines h.0 (w, f) (lines_fit net well) h.1).0
@@ -91,10 +91,10 @@ module _ (net : PlainNet) (well : WellFormed net) where
   driven_is_wire d_nothing w h = absurd h
 
   -- and is its driver
-  pub is_driver : (d : Driver) (w : ℕ) → Drives net d w → driver net w ≡ d
+  pub is_driver : (d : Driver) (w : ℕ) → HasDriver net d w → driver net w ≡ d
   is_driver d w h = by_kind d h (one_way net well w (driven_is_wire d w h))
     where
-      by_kind : (d : Driver) → Drives net d w → times w (input_bits net) + times w (clock_bits net) + count_by (λ l. l.0 == w) net.lines + count_by (λ r. r.q == w) net.registers ≡ 1 → driver net w ≡ d
+      by_kind : (d : Driver) → HasDriver net d w → times w (input_bits net) + times w (clock_bits net) + count_by (λ l. l.0 == w) net.lines + count_by (λ r. r.q == w) net.registers ≡ 1 → driver net w ≡ d
       by_kind (d_equation f) h one =
           let some = count_some (λ (l : Line). l.0 == w) net.lines (any_at (λ l. l.0 == w) net.lines h.0 (w, f) h.1 (eq-eqb w w refl)) in
           first_at (λ (l : Line). l.0 == w) (λ n l. d_equation l.1) 0 net.lines _ h.0 (w, f) (omega arith) h.1 (eq-eqb w w refl)
@@ -120,7 +120,7 @@ module _ (net : PlainNet) (well : WellFormed net) where
       by_kind d_nothing h one = absurd h
 
   -- each wire has a driver
-  pub is_driven : (w : ℕ) → w < length net.wires → Drives net (driver net w) w
+  pub is_driven : (w : ℕ) → w < length net.wires → HasDriver net (driver net w) w
   is_driven w lt =
       elim (cases_Bool (list_any (λ (l : Line). l.0 == w) net.lines)) [
         | inl some ↦ (let found = place_of_any (λ (l : Line). l.0 == w) net.lines some in
@@ -144,14 +144,14 @@ module _ (net : PlainNet) (well : WellFormed net) where
         ]
       ]
     where
-      from : (d : Driver) → Drives net d w → Drives net (driver net w) w
-      from d h = subst (λ e. Drives net e w) (sym (is_driver d w h)) h
+      from : (d : Driver) → HasDriver net d w → HasDriver net (driver net w) w
+      from d h = subst (λ e. HasDriver net e w) (sym (is_driver d w h)) h
 
   -- what it reads or stores are wires
   pub reads_are_wires : (w v : ℕ) → w < length net.wires → IsTrue (reads_ever (driver net w) v) → v < length net.wires
   reads_are_wires w v lt = by_kind (driver net w) (is_driven w lt)
     where
-      by_kind : (d : Driver) → Drives net d w → IsTrue (reads_ever d v) → v < length net.wires
+      by_kind : (d : Driver) → HasDriver net d w → IsTrue (reads_ever d v) → v < length net.wires
       by_kind (d_equation f) h read =
           let fit = all_of_one (λ (l : Line). (l.0 < length net.wires) × IsTrue (reads_below (length net.wires) l.1)) net.lines h.0 (w, f) (lines_fit net well) h.1 in
           reads_are_below (length net.wires) f fit.1 v read

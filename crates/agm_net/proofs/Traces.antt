@@ -6,7 +6,7 @@ use Rattle.std.proofs.lemmas.Option.{get_or_from_slice_get}
 use Rattle.agm_net.specs.Formula.{value}
 use Rattle.agm_net.specs.Loop.{HasNoLoop}
 use Rattle.agm_net.specs.Plain.{Line, Stored, PlainNet, input_bits, clock_bits}
-use Rattle.agm_net.specs.Run.{Driver, d_input, d_clock, d_equation, d_register, d_nothing, Drives, driver, asked, before, KeepsDrivers, Fits, bit_in, run_of}
+use Rattle.agm_net.specs.Run.{Driver, d_input, d_clock, d_equation, d_register, d_nothing, HasDriver, driver, asked, before, KeepsDrivers, Fits, bit_in, run_of}
 use Rattle.agm_net.specs.Trace.{Row, row_at, bit_at, IsTrace}
 use Rattle.agm_net.specs.WellFormed.{WellFormed}
 use Rattle.agm_net.proofs.Driving.{driven_is_wire, is_driver, is_driven, now_is_ever, reads_are_wires}
@@ -33,7 +33,7 @@ module _ (net : PlainNet) (well : WellFormed net) (power : Row) (tape table : Li
     keeps = λ t w lt inside. by_kind (driver net w) t w lt (is_driven net well w inside);
   }
     where
-      by_kind : (d : Driver) (t w : ℕ) → t < length table → Drives net d w → bit_at table t w ≡ asked d power tape (before (bit_at table) t) (bit_at table t) t
+      by_kind : (d : Driver) (t w : ℕ) → t < length table → HasDriver net d w → bit_at table t w ≡ asked d power tape (before (bit_at table) t) (bit_at table t) t
       by_kind (d_input n) t w lt h = image_bit (bit_at table t) (input_bits net) (row_at tape t) n w (trace.inputs_given t lt) h
       by_kind d_clock t w lt h = found_of_all (λ v. bit_at table t v ≡ false) (clock_bits net) (trace.clock_is_low t lt) w h
       by_kind (d_equation f) t w lt h = all_of_one (λ (l : Line). bit_at table t l.0 ≡ value (bit_at table t) l.1) net.lines h.0 (w, f) (trace.equations_hold t lt) h.1
@@ -59,7 +59,7 @@ module _ (net : PlainNet) (well : WellFormed net) (power : Row) (tape table : Li
         (λ n r at. ap (λ k. bit_at table k r.q) (add-one t) ∙ has (suc t) r.q (d_register n r.next) (omega (arith, lt)) (r, at, refl, refl));
   }
     where
-      has : (t w : ℕ) (d : Driver) → t < length table → Drives net d w → bit_at table t w ≡ asked d power tape (before (bit_at table) t) (bit_at table t) t
+      has : (t w : ℕ) (d : Driver) → t < length table → HasDriver net d w → bit_at table t w ≡ asked d power tape (before (bit_at table) t) (bit_at table t) t
       has t w d lt h = kept.keeps t w lt (driven_is_wire net well d w h) ∙ ap (λ e. asked e power tape (before (bit_at table) t) (bit_at table t) t) (is_driver net well d w h)
 
 module _ (net : PlainNet) (well : WellFormed net) (none : HasNoLoop net) (power : Row) (tape : List Row) where

@@ -15,12 +15,12 @@ pub data Driver : Type 0 where
   d_nothing : Driver
 
 -- what a net has that gives wire w its bit so
-abbrev pub Drives : PlainNet → Driver → ℕ → Type 0
-Drives net (d_input n) w = slice_get (input_bits net) n ≡ Some w
-Drives net d_clock w = IsTrue (list_any (λ b. b == w) (clock_bits net))
-Drives net (d_equation f) w = (n : ℕ) × (slice_get net.lines n ≡ Some (w, f))
-Drives net (d_register n next) w = (r : Stored) × (slice_get net.registers n ≡ Some r) × (r.q ≡ w) × (r.next ≡ next)
-Drives net d_nothing w = Prim.⊥
+abbrev pub HasDriver : PlainNet → Driver → ℕ → Type 0
+HasDriver net (d_input n) w = slice_get (input_bits net) n ≡ Some w
+HasDriver net d_clock w = IsTrue (list_any (λ b. b == w) (clock_bits net))
+HasDriver net (d_equation f) w = (n : ℕ) × (slice_get net.lines n ≡ Some (w, f))
+HasDriver net (d_register n next) w = (r : Stored) × (slice_get net.registers n ≡ Some r) × (r.q ≡ w) × (r.next ≡ next)
+HasDriver net d_nothing w = Prim.⊥
 
 -- what the first item that passes makes of its place, counted from n, and itself; else another driver
 abbrev pub first_driver : {X : Type 0} → (X → Bool) → (ℕ → X → Driver) → ℕ → List X → Driver → Driver

@@ -4,19 +4,19 @@ ghost use Rattle.std.specs.Prelude.{◌≡◌, ◌<◌, ◌≤◌, ◌↔◌, �
 ghost use Rattle.std.specs.List.{AllByRecursion};
 ghost use Rattle.agm_net.specs.Loop.{reads, HasNoLoop, IsRanked};
 ghost use Rattle.agm_net.specs.Plain.{Line, PlainNet};
-ghost use Rattle.agm_net.specs.Run.{Driver, Drives, driver, reads_now, reads_ever, bit_in, run_of, KeepsDrivers, Fits};
+ghost use Rattle.agm_net.specs.Run.{Driver, HasDriver, driver, reads_now, reads_ever, bit_in, run_of, KeepsDrivers, Fits};
 ghost use Rattle.agm_net.specs.Small.{InOrder, IsFresh};
 ghost use Rattle.agm_net.specs.Trace.{Row, Holds, row_at, bit_at, IsTrace};
 ghost use Rattle.agm_net.specs.WellFormed.{WellFormed};
 
 /// Each wire of a net has a driver that stands in the net.
 pub fn each_wire_is_driven()
-    ensures { (net : PlainNet) (w : ℕ) → WellFormed net → w < length net.wires → Drives net (driver net w) w }
+    ensures { (net : PlainNet) (w : ℕ) → WellFormed net → w < length net.wires → HasDriver net (driver net w) w }
 {}
 
 /// What stands in a net and drives a number so is the driver of one of its wires, and there is no other.
 pub fn one_driver()
-    ensures { (net : PlainNet) (d : Driver) (w : ℕ) → WellFormed net → Drives net d w → (w < length net.wires) × (driver net w ≡ d) }
+    ensures { (net : PlainNet) (d : Driver) (w : ℕ) → WellFormed net → HasDriver net d w → (w < length net.wires) × (driver net w ≡ d) }
 {}
 
 /// What a wire's driver reads, or stores, are wires of the net.
