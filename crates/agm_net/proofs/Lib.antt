@@ -9,3 +9,7 @@ pub mod PlainForm
 pub mod Ports
 pub mod Repeats
 pub mod ShareIndex
+pub mod NameCuts
+pub mod OnePart
+pub mod OneLabel
+pub mod OneWire

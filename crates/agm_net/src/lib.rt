@@ -3,6 +3,7 @@
 
 mod checks;
 mod expr;
+mod label;
 mod mark;
 mod net;
 mod plain;
@@ -11,6 +12,7 @@ mod refusals;
 mod roles;
 
 pub use expr::{Equation, Expr, Register, is_within, not_of, xor_of};
+pub use label::{Label, Part, PartKind, one_label, one_part, one_reader};
 pub use mark::{Mark, Marks, Role};
 pub use net::{Net, NewNet};
 pub use port::{Port, Range, Way};
