@@ -1,5 +1,5 @@
 -- The wires that calls add can be stated by the small form.
-use Rattle.std.proofs.Common.{◌≡◌, ◌++◌, ℕ, zero, suc, List, sym, subst}
+use Rattle.std.proofs.Common.{◌≡◌, ◌++◌, ℕ, zero, suc, true, false, List, sym, subst}
 use Rattle.share_wiring.specs.Cells.{IsCellSource, AreCells, AddsCells}
 use Rattle.share_wiring.specs.Own.{bit_wires, source_of}
 use Rattle.share_wiring.specs.Wiring.{Wiring, share}
@@ -17,6 +17,9 @@ cells_more old new more e h before = subst AreCells (sym e) (all_joined (λ wire
 -- what a step makes
 step_cell : (s : Step) (i x y : ℕ) → IsCellSource (source_of s i x y)
 step_cell step.Copy i x y = tt
+step_cell (step.Constant true) zero x y = tt
+step_cell (step.Constant false) zero x y = tt
+step_cell (step.Constant b) (suc i) x y = tt
 step_cell step.First zero x y = tt
 step_cell step.First (suc i) x y = tt
 step_cell step.Not zero x y = tt
@@ -24,6 +27,7 @@ step_cell step.Not (suc i) x y = tt
 step_cell step.Xor i x y = tt
 step_cell (step.And w) i x y = tt
 step_cell step.Delay i x y = tt
+step_cell step.Hold i x y = tt
 
 pub step_cells : (old new : Wiring) (n : ℕ) (s : Step) (x y : List ℕ) → new.wires ≡ old.wires ++ step_wires old n s x y → AddsCells old new
 step_cells old new n s x y e =

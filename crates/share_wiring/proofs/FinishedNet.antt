@@ -20,7 +20,7 @@ use Rattle.share_wiring.specs.Built.{source_fits, AreDistinct, HasItsBits, input
 use Rattle.share_wiring.specs.declared.gate.Gate.{Gate}
 use Rattle.share_wiring.specs.declared.gate.Gate.TheVariants.{Zero, One, Same, Not, And, Or, Xor, Mux}
 use Rattle.share_wiring.specs.declared.gate.Source.{Source}
-use Rattle.share_wiring.specs.declared.gate.Source.TheVariants.{Input, Equation, Register}
+use Rattle.share_wiring.specs.declared.gate.Source.TheVariants.{Input, Equation, Register, Held}
 use Rattle.share_wiring.specs.declared.gate.Wire.{Wire}
 use Rattle.share_wiring.proofs.Lists.{all_front, all_back, all_joined, all_of_one, count_yes, count_no}
 use Rattle.share_wiring.proofs.Distinct.{Distinct, differ_from_Distinct}
@@ -69,11 +69,13 @@ line_fits : (w N : ℕ) (s : Source) → w < N → IsTrue (source_fits s w N) �
 line_fits w N Input lt h = tt
 line_fits w N (Equation gate) lt h = (and_from (nat_lt w N) (reads_below N (gate_formula gate)) (lt-ltb w N lt) (same_below gate N ∙ gate_more gate w N (omega arith) h), tt)
 line_fits w N (Register next clock) lt h = tt
+line_fits w N Held lt h = tt
 
 stored_fits : (w N : ℕ) (s : Source) → w < N → IsTrue (source_fits s w N) → AllByRecursion (λ r. IsTrue (nat_lt r.q N && (reads_below N r.next && nat_lt r.clock N))) (stored_at w s)
 stored_fits w N Input lt h = tt
 stored_fits w N (Equation gate) lt h = tt
 stored_fits w N (Register next clock) lt h = (and_from (nat_lt w N) (nat_lt next N && nat_lt clock N) (lt-ltb w N lt) h, tt)
+stored_fits w N Held lt h = (and_from (nat_lt w N) (nat_lt w N && nat_lt 0 N) (lt-ltb w N lt) (and_from (nat_lt w N) (nat_lt 0 N) (lt-ltb w N lt) (lt-ltb 0 N (omega arith))), tt)
 
 fits : (net : Wiring) → IsBuilt net → IsTrue (numbers_fit (net_of net))
 fits net built =
@@ -93,11 +95,13 @@ line_here : (w : ℕ) (s : Source) → count_by (λ l. l.0 == w) (line_at w s) �
 line_here w Input = refl
 line_here w (Equation gate) = count_yes (λ (l : Line). l.0 == w) (w, gate_formula gate) [] (eq-eqb w w refl)
 line_here w (Register next clock) = refl
+line_here w Held = refl
 
 line_elsewhere : (w k : ℕ) (s : Source) → k ≢ w → count_by (λ l. l.0 == w) (line_at k s) ≡ 0
 line_elsewhere w k Input other = refl
 line_elsewhere w k (Equation gate) other = count_no (λ (l : Line). l.0 == w) (k, gate_formula gate) [] (ne_eqb k w other)
 line_elsewhere w k (Register next clock) other = refl
+line_elsewhere w k Held other = refl
 
 lines_none : (wires : List Wire) (n w : ℕ) → n ≤ w → count_by (λ l. l.0 == w) (lines_below wires n) ≡ 0
 lines_none wires zero w le = refl
@@ -121,11 +125,13 @@ stored_here : (w : ℕ) (s : Source) → count_by (λ r. r.q == w) (stored_at w 
 stored_here w Input = refl
 stored_here w (Equation gate) = refl
 stored_here w (Register next clock) = count_yes (λ (r : Stored). r.q == w) (record { q = w; next = gate_formula (Same next); clock = clock }) [] (eq-eqb w w refl)
+stored_here w Held = count_yes (λ (r : Stored). r.q == w) (record { q = w; next = gate_formula (Same w); clock = 0 }) [] (eq-eqb w w refl)
 
 stored_elsewhere : (w k : ℕ) (s : Source) → k ≢ w → count_by (λ r. r.q == w) (stored_at k s) ≡ 0
 stored_elsewhere w k Input other = refl
 stored_elsewhere w k (Equation gate) other = refl
 stored_elsewhere w k (Register next clock) other = count_no (λ (r : Stored). r.q == w) (record { q = k; next = gate_formula (Same next); clock = clock }) [] (ne_eqb k w other)
+stored_elsewhere w k Held other = count_no (λ (r : Stored). r.q == w) (record { q = k; next = gate_formula (Same k); clock = 0 }) [] (ne_eqb k w other)
 
 stored_none : (wires : List Wire) (n w : ℕ) → n ≤ w → count_by (λ r. r.q == w) (stored_below wires n) ≡ 0
 stored_none wires zero w le = refl
@@ -149,6 +155,7 @@ one_kind : (s : Source) → input_uses s + (is_line s + is_stored s) ≡ 1
 one_kind Input = refl
 one_kind (Equation gate) = refl
 one_kind (Register next clock) = refl
+one_kind Held = refl
 
 -- each wire has one driver
 driven : (net : Wiring) → IsBuilt net → (w : ℕ) → w < length net.wires → drivers (net_of net) w ≡ 1
@@ -208,6 +215,7 @@ line_reads_lower k w v N (Equation gate) h some =
       | inr none ↦ absurd (let bad : false ≡ true = none in cc)
     ]
 line_reads_lower k w v N (Register next clock) h some = absurd (let no : false ≡ true = some in cc)
+line_reads_lower k w v N Held h some = absurd (let no : false ≡ true = some in cc)
 
 reads_lower : (wires : List Wire) (N n w v : ℕ) → ((k : ℕ) → k < n → IsTrue (source_fits (source_at wires k) k N)) → IsTrue (list_any (λ l. (l.0 == w) && stands v l.1) (lines_below wires n)) → v < w
 reads_lower wires N zero w v h some = absurd (let no : false ≡ true = some in cc)
@@ -234,6 +242,7 @@ line_kept : (cycles w : ℕ) (bits : ℕ → ℕ → Bool) (s : Source) → ((t 
 line_kept cycles w bits Input h g = tt
 line_kept cycles w bits (Equation gate) h g = λ t lt. (h t lt).0
 line_kept cycles w bits (Register next clock) h g = λ t lt. (g t lt).0
+line_kept cycles w bits Held h g = tt
 
 -- each trace of the net is one of the wires
 pub runs : (net : Wiring) (power : Row) (tape table : List Row) → IsTrace (net_of net) power tape table → IsRun net.wires (length table) (bit_at table)

@@ -13,7 +13,7 @@ use Rattle.share_wiring.specs.Built.{source_fits, AreDistinct, IsNew, LeavesFree
 use Rattle.share_wiring.specs.declared.gate.Gate.{Gate}
 use Rattle.share_wiring.specs.declared.gate.Gate.TheVariants.{Zero, One, Same, Not, And, Or, Xor, Mux}
 use Rattle.share_wiring.specs.declared.gate.Source.{Source}
-use Rattle.share_wiring.specs.declared.gate.Source.TheVariants.{Input, Equation, Register}
+use Rattle.share_wiring.specs.declared.gate.Source.TheVariants.{Input, Equation, Register, Held}
 use Rattle.share_wiring.specs.declared.gate.Wire.{Wire}
 use Rattle.share_wiring.proofs.Lists.{all_joined, all_from}
 
@@ -53,6 +53,7 @@ pub fits_more : (source : Source) (k n k' n' : ℕ) → k ≤ k' → n ≤ n' �
 fits_more Input k n k' n' le le' h = h
 fits_more (Equation gate) k n k' n' le le' h = gate_more gate k k' le h
 fits_more (Register next clock) k n k' n' le le' h = two_more (nat_lt next n) (nat_lt clock n) (nat_lt next n') (nat_lt clock n') (lt_more next n n' le') (lt_more clock n n' le') h
+fits_more Held k n k' n' le le' h = h
 
 -- what new wires want: they read old ones, and their names are new
 pub record Fit (net : Wiring) (more : List Wire) : Type 0 where

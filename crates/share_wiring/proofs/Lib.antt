@@ -1,6 +1,7 @@
 pub mod Lists
 pub mod Recombine
 pub mod Unique
+pub mod Closing
 pub mod Loops
 pub mod Drivers
 pub mod Names

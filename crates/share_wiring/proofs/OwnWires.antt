@@ -1,5 +1,5 @@
 -- The wires that a step makes.
-use Rattle.std.proofs.Common.{◌-◌, ◌≡◌, ◌≢◌, ◌<◌, ◌≤◌, ◌+◌, ◌*◌, ◌^◌, ◌++◌, ◌⊎◌, ℕ, zero, suc, Bool, List, [], ◌∷◌, Some, codes, length, take, map, get_or, slice_get, refl, sym, ap, subst, inl, inr, ◌∙◌, length-append, append_assoc, arith, add-one, IsTrue, nat_lt}
+use Rattle.std.proofs.Common.{◌-◌, ◌≡◌, ◌≢◌, ◌<◌, ◌≤◌, ◌+◌, ◌*◌, ◌^◌, ◌++◌, ◌⊎◌, ℕ, zero, suc, Bool, true, false, List, [], ◌∷◌, Some, codes, length, take, map, get_or, slice_get, refl, sym, ap, subst, inl, inr, ◌∙◌, length-append, append_assoc, arith, add-one, IsTrue, nat_lt}
 use Rattle.std.specs.List.{AllByRecursion}
 use Rattle.std.proofs.lemmas.List.{get_or_append_left, map-append, length-map}
 use Rattle.std.proofs.lemmas.Option.{slice_get_within}
@@ -11,7 +11,7 @@ use Rattle.agm_net.specs.Writable.{IsWritable}
 use Rattle.share_wiring.specs.Wiring.{Wiring, IsRun, Keeps, source_at, name_at, names, share, MayBeShare, IsSharing}
 use Rattle.share_wiring.specs.Own.{own_name, own_wires, source_of, step_registers, upto}
 use Rattle.share_wiring.specs.Adds.{AddsRegisters}
-use Rattle.share_wiring.specs.Built.{source_fits, AreDistinct, IsNew, LeavesFree, IsBegun, IsInnerName, input_uses, is_stored, HasItsBits, clock_port, IsBuilt, ReadsPublic}
+use Rattle.share_wiring.specs.Built.{source_fits, AreDistinct, IsNew, LeavesFree, IsBegun, IsInnerName, input_uses, is_stored, HasItsBits, clock_port, IsBuilt, ReadsPublic, ReadsShares}
 use Rattle.share_wiring.specs.declared.gate.Source.{Source}
 use Rattle.share_wiring.specs.declared.gate.Wire.{Wire}
 use Rattle.share_wiring.specs.declared.gate.Step.{Step}
@@ -107,19 +107,29 @@ module _ (net : Wiring) (n : ℕ) (source : ℕ → Source) where
   )
 
 -- a step reads wires of its sharings
-pub step_fits : (wires : List Wire) (s : Step) (i x y n : ℕ) → 0 < length wires → ReadsPublic wires s → x < length wires → y < length wires → IsTrue (source_fits (source_of s i x y) (length wires) (length wires))
-step_fits wires step.Copy i x y n some public hx hy = lt-ltb x (length wires) hx
-step_fits wires step.First zero x y n some public hx hy = lt-ltb x (length wires) hx
-step_fits wires step.First (suc i) x y n some public hx hy = refl
-step_fits wires step.Not zero x y n some public hx hy = lt-ltb x (length wires) hx
-step_fits wires step.Not (suc i) x y n some public hx hy = lt-ltb x (length wires) hx
-step_fits wires step.Xor i x y n some public hx hy = and_from (nat_lt x (length wires)) (nat_lt y (length wires)) (lt-ltb x (length wires) hx) (lt-ltb y (length wires) hy)
-step_fits wires (step.And w) i x y n some public hx hy = and_from (nat_lt w (length wires)) (nat_lt x (length wires)) (lt-ltb w (length wires) public.within) (lt-ltb x (length wires) hx)
-step_fits wires step.Delay i x y n some public hx hy = and_from (nat_lt x (length wires)) (nat_lt 0 (length wires)) (lt-ltb x (length wires) hx) (lt-ltb 0 (length wires) some)
+pub step_fits : (wires : List Wire) (s : Step) (i n : ℕ) (xs ys : List ℕ) → 0 < length wires → i < n → ReadsPublic wires s → ReadsShares s n wires xs → ReadsShares s n wires ys
+    → IsTrue (source_fits (source_of s i (share xs i) (share ys i)) (length wires) (length wires))
+step_fits wires step.Copy i n xs ys some lt public hx hy = lt-ltb (share xs i) (length wires) (hx i lt).within
+step_fits wires (step.Constant true) zero n xs ys some lt public hx hy = refl
+step_fits wires (step.Constant false) zero n xs ys some lt public hx hy = refl
+step_fits wires (step.Constant b) (suc i) n xs ys some lt public hx hy = refl
+step_fits wires step.First zero n xs ys some lt public hx hy = lt-ltb (share xs 0) (length wires) (hx 0 lt).within
+step_fits wires step.First (suc i) n xs ys some lt public hx hy = refl
+step_fits wires step.Not zero n xs ys some lt public hx hy = lt-ltb (share xs 0) (length wires) (hx 0 lt).within
+step_fits wires step.Not (suc i) n xs ys some lt public hx hy = lt-ltb (share xs (suc i)) (length wires) (hx (suc i) lt).within
+step_fits wires step.Xor i n xs ys some lt public hx hy =
+    and_from (nat_lt (share xs i) (length wires)) (nat_lt (share ys i) (length wires)) (lt-ltb (share xs i) (length wires) (hx i lt).within) (lt-ltb (share ys i) (length wires) (hy i lt).within)
+step_fits wires (step.And w) i n xs ys some lt public hx hy =
+    and_from (nat_lt w (length wires)) (nat_lt (share xs i) (length wires)) (lt-ltb w (length wires) public.within) (lt-ltb (share xs i) (length wires) (hx i lt).within)
+step_fits wires step.Delay i n xs ys some lt public hx hy =
+    and_from (nat_lt (share xs i) (length wires)) (nat_lt 0 (length wires)) (lt-ltb (share xs i) (length wires) (hx i lt).within) (lt-ltb 0 (length wires) some)
+step_fits wires step.Hold i n xs ys some lt public hx hy = refl
 
 -- it makes no input
 pub step_inner : (s : Step) (i x y : ℕ) → input_uses (source_of s i x y) ≡ 0
 step_inner step.Copy i x y = refl
+step_inner (step.Constant b) zero x y = refl
+step_inner (step.Constant b) (suc i) x y = refl
 step_inner step.First zero x y = refl
 step_inner step.First (suc i) x y = refl
 step_inner step.Not zero x y = refl
@@ -127,14 +137,18 @@ step_inner step.Not (suc i) x y = refl
 step_inner step.Xor i x y = refl
 step_inner (step.And w) i x y = refl
 step_inner step.Delay i x y = refl
+step_inner step.Hold i x y = refl
 
 -- how many registers it makes of one share
 abbrev pub step_stored : Step → ℕ
 step_stored step.Delay = 1
+step_stored step.Hold = 1
 step_stored _ = 0
 
 pub step_is_stored : (s : Step) (i x y : ℕ) → is_stored (source_of s i x y) ≡ step_stored s
 step_is_stored step.Copy i x y = refl
+step_is_stored (step.Constant b) zero x y = refl
+step_is_stored (step.Constant b) (suc i) x y = refl
 step_is_stored step.First zero x y = refl
 step_is_stored step.First (suc i) x y = refl
 step_is_stored step.Not zero x y = refl
@@ -142,14 +156,17 @@ step_is_stored step.Not (suc i) x y = refl
 step_is_stored step.Xor i x y = refl
 step_is_stored (step.And w) i x y = refl
 step_is_stored step.Delay i x y = refl
+step_is_stored step.Hold i x y = refl
 
 pub step_count : (s : Step) (n : ℕ) → n * step_stored s ≡ step_registers s n
 step_count step.Copy n = omega arith
+step_count (step.Constant b) n = omega arith
 step_count step.First n = omega arith
 step_count step.Not n = omega arith
 step_count step.Xor n = omega arith
 step_count (step.And w) n = omega arith
 step_count step.Delay n = omega arith
+step_count step.Hold n = omega arith
 
 some_port : (wires : List (List ℕ)) (ports : List Port) → take 1 ports ≡ clock_port ∷ [] → AllByRecursion (HasItsBits wires) ports → 0 < length wires
 some_port wires [] e h = absurd (cc)
@@ -168,11 +185,11 @@ module _ (net : Wiring) (n : ℕ) (s : Step) (x y : List ℕ) where
   abbrev pub step_wires : List Wire
   step_wires = own_wires n (length net.wires) (λ i. source_of s i (share x i) (share y i)) n
 
-  pub step_built : IsBuilt net → n ≤ 16 → length net.wires + n < 2 ^ 64 → ReadsPublic net.wires s → IsSharing net.wires n x → IsSharing net.wires n y → IsBuilt (record net { wires = net.wires ++ step_wires })
+  pub step_built : IsBuilt net → n ≤ 16 → length net.wires + n < 2 ^ 64 → ReadsPublic net.wires s → ReadsShares s n net.wires x → ReadsShares s n net.wires y → IsBuilt (record net { wires = net.wires ++ step_wires })
   step_built built le room public hx hy =
       let source : ℕ → Source = λ i. source_of s i (share x i) (share y i) in
       built_wires net step_wires built
-      (made_fits net n source built le room (λ i lt. step_fits net.wires s i (share x i) (share y i) n (some_wire net built) public (hx i lt).within (hy i lt).within))
+      (made_fits net n source built le room (λ i lt. step_fits net.wires s i n x y (some_wire net built) lt public hx hy))
       (each_name net n source IsInnerName (λ i lt. own_inner n i (length net.wires + i)))
       (each_source net n source (λ t. input_uses t ≡ 0) (λ i lt. step_inner s i (share x i) (share y i)))
 

@@ -8,7 +8,7 @@ use Rattle.share_wiring.specs.Wiring.{Wiring, IsRun, Keeps, source_at, name_at, 
 use Rattle.share_wiring.specs.Adds.{Extends, AddsRegisters}
 use Rattle.share_wiring.specs.Built.{is_stored}
 use Rattle.share_wiring.specs.declared.gate.Source.{Source}
-use Rattle.share_wiring.specs.declared.gate.Source.TheVariants.{Input, Equation, Register}
+use Rattle.share_wiring.specs.declared.gate.Source.TheVariants.{Input, Equation, Register, Held}
 use Rattle.share_wiring.specs.declared.gate.Wire.{Wire}
 use Rattle.share_wiring.proofs.Grown.{source_front, source_back, names_append, sources_at}
 
@@ -104,6 +104,7 @@ one_stored : (w : ℕ) (source : Source) → length (stored_at w source) ≡ is_
 one_stored w Input = refl
 one_stored w (Equation gate) = refl
 one_stored w (Register next clock) = refl
+one_stored w Held = refl
 
 stored_front : (old more : List Wire) (n : ℕ) → n ≤ length old → stored_below (old ++ more) n ≡ stored_below old n
 stored_front old more zero le = refl

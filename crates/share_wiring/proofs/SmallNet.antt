@@ -17,7 +17,7 @@ use Rattle.share_wiring.specs.Wiring.{Wiring, names, source_at, line_at, stored_
 use Rattle.share_wiring.specs.declared.gate.Gate.{Gate}
 use Rattle.share_wiring.specs.declared.gate.Gate.TheVariants.{Zero, One, Same, Not, And, Or, Xor, Mux}
 use Rattle.share_wiring.specs.declared.gate.Source.{Source}
-use Rattle.share_wiring.specs.declared.gate.Source.TheVariants.{Input, Equation, Register}
+use Rattle.share_wiring.specs.declared.gate.Source.TheVariants.{Input, Equation, Register, Held}
 use Rattle.share_wiring.proofs.FinishedNet.{all_lines, all_stored}
 use Rattle.share_wiring.proofs.Grown.{sources_at}
 use Rattle.share_wiring.proofs.Lists.{all_from, all_of_one}
@@ -40,21 +40,25 @@ line_operator : (w : ℕ) (s : Source) → AllByRecursion (λ l. IsOneOperator l
 line_operator w Input = tt
 line_operator w (Equation gate) = (one_operator gate, tt)
 line_operator w (Register next clock) = tt
+line_operator w Held = tt
 
 line_cell : (w : ℕ) (s : Source) → IsCellSource s → AllByRecursion (λ l. IsCell l.1) (line_at w s)
 line_cell w Input h = tt
 line_cell w (Equation gate) h = (h, tt)
 line_cell w (Register next clock) h = tt
+line_cell w Held h = tt
 
 stored_next : (w : ℕ) (s : Source) → AllByRecursion (λ r. IsNextOf r.q r.next) (stored_at w s)
 stored_next w Input = tt
 stored_next w (Equation gate) = tt
 stored_next w (Register next clock) = (tt, tt)
+stored_next w Held = (tt, tt)
 
 stored_wire : (w : ℕ) (s : Source) → AllByRecursion (λ r. IsWire r.next) (stored_at w s)
 stored_wire w Input = tt
 stored_wire w (Equation gate) = tt
 stored_wire w (Register next clock) = ((next, refl), tt)
+stored_wire w Held = ((w, refl), tt)
 
 -- ---- names
 

@@ -4,7 +4,7 @@ use Rattle.agm_net.specs.Formula.{xor}
 use Rattle.share_wiring.specs.Recombine.{xor_below}
 use Rattle.share_wiring.specs.Wiring.{Keeps, share}
 use Rattle.share_wiring.specs.Own.{source_of}
-use Rattle.share_wiring.specs.Adds.{Xors, Inverts, Masks, Holds}
+use Rattle.share_wiring.specs.Adds.{Xors, Inverts, Masks, Holds, IsAlways}
 use Rattle.share_wiring.specs.declared.gate.Step.TheVariants as step
 use Rattle.share_wiring.proofs.Recombine.{xor_same, xor_of_xors}
 
@@ -70,3 +70,15 @@ publics zero cycles bits w x y z some is kept t lt = absurd (omega arith)
 publics (suc n) cycles bits w x y z some is kept t lt =
     xor_same (suc n) (λ i. bits t (share z i)) (alone (bits t w)) (λ i h. one_alone cycles bits x y z w i t lt (is i h) (kept i h))
     ∙ first_alone n (alone (bits t w)) (λ i. refl)
+
+one_always : (cycles : ℕ) (bits : ℕ → ℕ → Bool) (x y z : List ℕ) (b : Bool) (i t : ℕ) → t < cycles → Keeps cycles bits (share z i) (source_of (step.Constant b) i (share x i) (share y i)) → bits t (share z i) ≡ alone b i
+one_always cycles bits x y z true zero t lt h = h t lt
+one_always cycles bits x y z false zero t lt h = h t lt
+one_always cycles bits x y z b (suc i) t lt h = h t lt
+
+pub always : (n cycles : ℕ) (bits : ℕ → ℕ → Bool) (b : Bool) (x y z : List ℕ) → 0 < n
+    → ((i : ℕ) → i < n → Keeps cycles bits (share z i) (source_of (step.Constant b) i (share x i) (share y i))) → IsAlways n cycles bits b z
+always zero cycles bits b x y z some kept t lt = absurd (omega arith)
+always (suc n) cycles bits b x y z some kept t lt =
+    xor_same (suc n) (λ i. bits t (share z i)) (alone b) (λ i h. one_always cycles bits x y z b i t lt (kept i h))
+    ∙ first_alone n (alone b) (λ i. refl)

@@ -1,11 +1,15 @@
 -- What a builder's call adds.
-use Rattle.std.specs.Prelude.{◌≡◌, ◌≤◌, ◌<◌, ◌+◌, ℕ, Bool, not, ◌&&◌, List, length, take, filter, codes}
+use Rattle.std.specs.Prelude.{◌≡◌, ◌≤◌, ◌<◌, ◌+◌, ◌++◌, ℕ, Bool, not, ◌&&◌, List, length, take, filter, codes}
 use Rattle.std.specs.List.{flat_map}
 use Rattle.std.specs.Str.{bytes_eq}
 use Rattle.agm_net.specs.Formula.{xor}
 use Rattle.agm_net.specs.declared.port.Port.{Port}
 use Rattle.share_wiring.specs.Recombine.{xor_below}
-use Rattle.share_wiring.specs.Wiring.{Wiring, IsRun, MayBeShare, IsPublicWire, share, net_of}
+use Rattle.share_wiring.specs.Wiring.{Wiring, IsRun, MayBeShare, IsPublicWire, share, source_at, net_of}
+use Rattle.share_wiring.specs.Own.{own_wires, source_of, upto}
+use Rattle.share_wiring.specs.declared.gate.Source.TheVariants.{Held}
+use Rattle.share_wiring.specs.declared.gate.Step.{Step}
+use Rattle.share_wiring.specs.declared.gate.Wire.{Wire}
 
 -- The earlier wires stay, with their names and sources; so what may be a share of an index may still be one.
 pub record Extends (old new : Wiring) : Type 0 where
@@ -20,6 +24,16 @@ pub record Stays (old new : Wiring) : Type 0 where
   pub ports : new.ports ≡ old.ports
   pub gadgets : new.gadgets ≡ old.gadgets
   pub given : new.given ≡ old.given
+
+-- The wires that were added are those that a step makes of the shares of x and y, and z has their numbers. Nothing else changed.
+pub record AddsStep (step : Step) (n : ℕ) (old new : Wiring) (x y z : List ℕ) : Type 0 where
+  pub made : new ≡ record old { wires = old.wires ++ own_wires n (length old.wires) (λ i. source_of step i (share x i) (share y i)) n }
+  pub numbers : z ≡ upto n (λ i. length old.wires + i)
+
+-- n wires, each another one, whose next values are yet to be given
+pub record AreHeld (n : ℕ) (wires : List Wire) (z : List ℕ) : Type 0 where
+  pub held : (i : ℕ) → i < n → source_at wires (share z i) ≡ Held
+  pub apart : (i j : ℕ) → i < n → j < n → share z i ≡ share z j → i ≡ j
 
 -- so many registers were added
 abbrev pub AddsRegisters : ℕ → Wiring → Wiring → Type 0
@@ -49,6 +63,10 @@ Masks n cycles bits w x z = (t : ℕ) → t < cycles → recombined n (bits t) z
 -- to the bit of a wire
 abbrev pub Holds : ℕ → ℕ → (ℕ → ℕ → Bool) → ℕ → List ℕ → Type 0
 Holds n cycles bits w z = (t : ℕ) → t < cycles → recombined n (bits t) z ≡ bits t w
+
+-- to a constant
+abbrev pub IsAlways : ℕ → ℕ → (ℕ → ℕ → Bool) → Bool → List ℕ → Type 0
+IsAlways n cycles bits bit z = (t : ℕ) → t < cycles → recombined n (bits t) z ≡ bit
 
 -- each share of z has the bit of that of x
 abbrev pub Copies : ℕ → ℕ → (ℕ → ℕ → Bool) → List ℕ → List ℕ → Type 0

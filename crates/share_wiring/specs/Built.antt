@@ -9,20 +9,21 @@ use Rattle.agm_net.specs.declared.port.Port.{Port}
 use Rattle.agm_net.specs.declared.port.Range.{Range}
 use Rattle.agm_net.specs.declared.port.Way.TheVariants.{Input as In}
 use Rattle.share_wiring.specs.Gates.{gate_below}
-use Rattle.share_wiring.specs.Wiring.{Wiring, names, name_at, source_at, IsPublicWire}
+use Rattle.share_wiring.specs.Wiring.{Wiring, names, name_at, source_at, IsPublicWire, IsSharing}
 use Rattle.share_wiring.specs.Own.{own_name}
 use Rattle.share_wiring.specs.Adds.{random_bits}
 use Rattle.share_wiring.specs.declared.gate.Source.{Source}
-use Rattle.share_wiring.specs.declared.gate.Source.TheVariants.{Input, Equation, Register}
+use Rattle.share_wiring.specs.declared.gate.Source.TheVariants.{Input, Equation, Register, Held}
 use Rattle.share_wiring.specs.declared.gate.Wire.{Wire}
 use Rattle.share_wiring.specs.declared.gate.Step.{Step}
-use Rattle.share_wiring.specs.declared.gate.Step.TheVariants.{And}
+use Rattle.share_wiring.specs.declared.gate.Step.TheVariants.{Constant, And, Hold}
 
 -- whether an equation reads wires below k, and a register wires below n
 abbrev pub source_fits : Source → ℕ → ℕ → Bool
 source_fits Input k n = true
 source_fits (Equation gate) k n = gate_below gate k
 source_fits (Register next clock) k n = nat_lt next n && nat_lt clock n
+source_fits Held k n = true
 
 -- no two items are the same
 abbrev pub AreDistinct : {X : Type 0} → List X → Type 0
@@ -74,6 +75,7 @@ input_uses _ = 0
 -- how many registers a wire of this source is
 abbrev pub is_stored : Source → ℕ
 is_stored (Register next clock) = 1
+is_stored Held = 1
 is_stored _ = 0
 
 abbrev pub clock_port : Port
@@ -142,3 +144,9 @@ pub record IsNewPart (net : Wiring) (name : List ℕ) : Type 0 where
 abbrev pub ReadsPublic : List Wire → Step → Type 0
 ReadsPublic wires (And wire) = IsPublicWire wires wire
 ReadsPublic wires _ = Unit {0}
+
+-- the wires that a step reads share by share are a sharing; constants and held registers read none
+abbrev pub ReadsShares : Step → ℕ → List Wire → List ℕ → Type 0
+ReadsShares (Constant bit) n wires shares = Unit {0}
+ReadsShares Hold n wires shares = Unit {0}
+ReadsShares _ n wires shares = IsSharing wires n shares

@@ -5,7 +5,7 @@ use Rattle.agm_net.specs.Small.{IsCell}
 use Rattle.share_wiring.specs.Gates.{gate_formula}
 use Rattle.share_wiring.specs.Wiring.{Wiring}
 use Rattle.share_wiring.specs.declared.gate.Source.{Source}
-use Rattle.share_wiring.specs.declared.gate.Source.TheVariants.{Input, Equation, Register}
+use Rattle.share_wiring.specs.declared.gate.Source.TheVariants.{Input, Equation, Register, Held}
 use Rattle.share_wiring.specs.declared.gate.Wire.{Wire}
 
 -- an input port's bit, a register, or an equation that an assign or a cell of the small form states
@@ -13,6 +13,7 @@ abbrev pub IsCellSource : Source → Type 0
 IsCellSource Input = Unit {0}
 IsCellSource (Equation gate) = IsCell (gate_formula gate)
 IsCellSource (Register next clock) = Unit {0}
+IsCellSource Held = Unit {0}
 
 -- each wire has such a source
 abbrev pub AreCells : List Wire → Type 0

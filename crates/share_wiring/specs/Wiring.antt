@@ -7,7 +7,7 @@ use Rattle.agm_net.specs.declared.port.Port.{Port}
 use Rattle.share_wiring.specs.Gates.{gate_formula}
 use Rattle.share_wiring.specs.declared.gate.Gate.TheVariants.{Zero, Same}
 use Rattle.share_wiring.specs.declared.gate.Source.{Source}
-use Rattle.share_wiring.specs.declared.gate.Source.TheVariants.{Input, Equation, Register}
+use Rattle.share_wiring.specs.declared.gate.Source.TheVariants.{Input, Equation, Register, Held}
 use Rattle.share_wiring.specs.declared.gate.Wire.{Wire}
 
 -- The ports, the wires in the order in which they were made, how many gadgets were begun, and how many bits of `agm_r` were given.
@@ -27,13 +27,14 @@ names wires = map (λ wire. wire.name) wires
 abbrev pub name_at : List Wire → ℕ → List ℕ
 name_at wires w = slice_index_or (names wires) w []
 
--- the equation, and the register, of wire w
+-- the equation, and the register, of wire w; one that is held keeps its bit
 abbrev pub line_at : ℕ → Source → List Line
 line_at w (Equation gate) = (w, gate_formula gate) ∷ []
 line_at w _ = []
 
 abbrev pub stored_at : ℕ → Source → List Stored
 stored_at w (Register next clock) = record { q = w; next = gate_formula (Same next); clock = clock } ∷ []
+stored_at w Held = record { q = w; next = gate_formula (Same w); clock = 0 } ∷ []
 stored_at w _ = []
 
 -- those of the first n wires
@@ -49,11 +50,12 @@ stored_below wires (suc n) = stored_below wires n ++ stored_at n (source_at wire
 abbrev pub net_of : Wiring → PlainNet
 net_of net = record { ports = net.ports; wires = names net.wires; lines = lines_below net.wires (length net.wires); registers = stored_below net.wires (length net.wires); clock = Some 0 }
 
--- `bits t w` is the bit of wire w in cycle t, of `cycles` cycles
+-- `bits t w` is the bit of wire w in cycle t, of `cycles` cycles; a wire that is held may have any
 abbrev pub Keeps : ℕ → (ℕ → ℕ → Bool) → ℕ → Source → Type 0
 Keeps cycles bits w Input = Unit {0}
 Keeps cycles bits w (Equation gate) = (t : ℕ) → t < cycles → bits t w ≡ value (bits t) (gate_formula gate)
 Keeps cycles bits w (Register next clock) = (t : ℕ) → t + 1 < cycles → bits (t + 1) w ≡ bits t next
+Keeps cycles bits w Held = Unit {0}
 
 -- every wire keeps its equation or its register
 unfoldable pub IsRun : List Wire → ℕ → (ℕ → ℕ → Bool) → Type 0

@@ -1,6 +1,6 @@
 //! A net that is built call by call.
 
-ghost use Rattle.std.specs.Prelude.{◌≡◌, ◌≢◌, [], ◌∷◌, ◌++◌, ◌<◌, ◌≤◌, ◌+◌, ◌^◌, ℕ, List, false, length, slice_index_or, IfOk, OnOk, OnErr, Some, None, codes, map, IsTrue};
+ghost use Rattle.std.specs.Prelude.{◌≡◌, ◌≢◌, [], ◌∷◌, ◌++◌, ◌<◌, ◌≤◌, ◌+◌, ◌^◌, ℕ, List, false, length, slice_index_or, IfOk, OnOk, OnErr, Some, None, replicate, codes, map, IsTrue};
 ghost use Rattle.std.specs.List.{AllByRecursion, range_with_len, insert};
 ghost use Rattle.std.specs.Str.{bytes_eq};
 ghost use Rattle.agm_net.specs.Formula.{formula_of, value, reads_below};
@@ -13,15 +13,15 @@ ghost use Rattle.agm_net.specs.Trace.{Row, IsTrace, bit_at};
 ghost use Rattle.agm_net.specs.Label.{gadget_name};
 ghost use Rattle.share_wiring.specs.Gates.{IsGate, gate_of, gate_formula};
 ghost use Rattle.share_wiring.specs.Wiring.{Wiring, IsSharing, IsPublicWire, IsRun, Keeps, names as names_of, share, net_of};
-ghost use Rattle.share_wiring.specs.Own.{source_of, step_registers, input_wires, copy_wires};
-ghost use Rattle.share_wiring.specs.Adds.{Extends, Stays, AddsRegisters, AddsFact, Xors, Inverts, Masks, Holds, Copies, Delays, random_bits, given_bits};
+ghost use Rattle.share_wiring.specs.Own.{source_of, step_registers, input_wires, copy_wires, closed_wires};
+ghost use Rattle.share_wiring.specs.Adds.{Extends, Stays, AddsStep, AreHeld, IsAlways, AddsRegisters, AddsFact, Xors, Inverts, Masks, Holds, Copies, Delays, random_bits, given_bits};
 ghost use Rattle.share_wiring.specs.Cells.{IsCellSource, AreCells, AddsCells};
-ghost use Rattle.share_wiring.specs.Built.{IsBuilt, ReadsPublic, IsNewPart, IsNewPort, MayBeGiven, IsNew, clock_port, source_fits, input_uses, is_stored};
+ghost use Rattle.share_wiring.specs.Built.{IsBuilt, ReadsPublic, ReadsShares, IsNewPart, IsNewPort, MayBeGiven, IsNew, clock_port, source_fits, input_uses, is_stored};
 
 use crate::bits::{push_input_port, push_output_port};
 use crate::finish::{equations, names, registers};
 use crate::gate::{Gate, Source, Step, Wire};
-use crate::sharing::{Sharing, ascending, push_step};
+use crate::sharing::{Sharing, ascending, close_wires, push_step};
 use agm_bits::{List, Memory, Name};
 use agm_net::{Expr, Net, Port, Range, Way};
 use std::alloc::Global;
@@ -104,12 +104,13 @@ impl Builder {
         x: &Sharing<S>,
         y: &Sharing<S>,
     ) -> Result<Sharing<S>, Memory>
-        requires left { IsSharing self.old.wires S x.now.shares }
-        requires right { IsSharing self.old.wires S y.now.shares }
+        requires left { ReadsShares step S self.old.wires x.now.shares }
+        requires right { ReadsShares step S self.old.wires y.now.shares }
         requires public { ReadsPublic self.old.wires step }
         requires size { (0 < S) × (S ≤ 16) }
         ensures extends { Extends self.old self.new }
         ensures stays { Stays self.old self.new }
+        ensures made { IfOk result (λ z. AddsStep step S self.old self.new x.now.shares y.now.shares z.shares) }
         ensures shares { IfOk result (λ z. IsSharing self.new.wires S z.shares) }
         ensures adds { IfOk result (λ z. AddsFact self.old self.new (λ cycles bits. (i : ℕ) → i < S → Keeps cycles bits (share z.shares i) (source_of step i (share x.now.shares i) (share y.now.shares i)))) }
         ensures cells { OnOk result (AddsCells self.old self.new) }
@@ -204,6 +205,7 @@ impl Builder {
         requires size { (0 < S) × (S ≤ 16) }
         ensures extends { Extends self.old self.new }
         ensures stays { Stays self.old self.new }
+        ensures made { IfOk result (λ z. AddsStep Step.First S self.old self.new (replicate S wire) (replicate S wire) z.shares) }
         ensures shares { IfOk result (λ z. IsSharing self.new.wires S z.shares) }
         ensures value { IfOk result (λ z. AddsFact self.old self.new (λ cycles bits. Holds S cycles bits wire z.shares)) }
         ensures cells { OnOk result (AddsCells self.old self.new) }
@@ -221,6 +223,7 @@ impl Builder {
         requires size { (0 < S) × (S ≤ 16) }
         ensures extends { Extends self.old self.new }
         ensures stays { Stays self.old self.new }
+        ensures made { IfOk result (λ z. AddsStep Step.Not S self.old self.new x.now.shares x.now.shares z.shares) }
         ensures shares { IfOk result (λ z. IsSharing self.new.wires S z.shares) }
         ensures value { IfOk result (λ z. AddsFact self.old self.new (λ cycles bits. Inverts S cycles bits x.now.shares z.shares)) }
         ensures cells { OnOk result (AddsCells self.old self.new) }
@@ -242,6 +245,7 @@ impl Builder {
         requires size { (0 < S) × (S ≤ 16) }
         ensures extends { Extends self.old self.new }
         ensures stays { Stays self.old self.new }
+        ensures made { IfOk result (λ z. AddsStep Step.Xor S self.old self.new x.now.shares y.now.shares z.shares) }
         ensures shares { IfOk result (λ z. IsSharing self.new.wires S z.shares) }
         ensures value { IfOk result (λ z. AddsFact self.old self.new (λ cycles bits. Xors S cycles bits x.now.shares y.now.shares z.shares)) }
         ensures cells { OnOk result (AddsCells self.old self.new) }
@@ -263,6 +267,7 @@ impl Builder {
         requires size { (0 < S) × (S ≤ 16) }
         ensures extends { Extends self.old self.new }
         ensures stays { Stays self.old self.new }
+        ensures made { IfOk result (λ z. AddsStep (Step.And wire) S self.old self.new x.now.shares x.now.shares z.shares) }
         ensures shares { IfOk result (λ z. IsSharing self.new.wires S z.shares) }
         ensures value { IfOk result (λ z. AddsFact self.old self.new (λ cycles bits. Masks S cycles bits wire x.now.shares z.shares)) }
         ensures cells { OnOk result (AddsCells self.old self.new) }
@@ -279,6 +284,7 @@ impl Builder {
         requires size { (0 < S) × (S ≤ 16) }
         ensures extends { Extends self.old self.new }
         ensures stays { Stays self.old self.new }
+        ensures made { IfOk result (λ z. AddsStep Step.Delay S self.old self.new x.now.shares x.now.shares z.shares) }
         ensures shares { IfOk result (λ z. IsSharing self.new.wires S z.shares) }
         ensures value { IfOk result (λ z. AddsFact self.old self.new (λ cycles bits. Delays S cycles bits x.now.shares z.shares)) }
         ensures cells { OnOk result (AddsCells self.old self.new) }
@@ -294,6 +300,7 @@ impl Builder {
         requires size { (0 < S) × (S ≤ 16) }
         ensures extends { Extends self.old self.new }
         ensures stays { Stays self.old self.new }
+        ensures made { IfOk result (λ z. AddsStep Step.Copy S self.old self.new x.now.shares x.now.shares z.shares) }
         ensures shares { IfOk result (λ z. IsSharing self.new.wires S z.shares) }
         ensures value { IfOk result (λ z. AddsFact self.old self.new (λ cycles bits. Copies S cycles bits x.now.shares z.shares)) }
         ensures cells { OnOk result (AddsCells self.old self.new) }
@@ -301,6 +308,53 @@ impl Builder {
         ensures err { OnErr result (self.new ≡ self.old) }
     {
         self.add_step(Step::Copy, x, x)
+    }
+
+    /// A sharing of a constant: share 0 has it, and the others are 0.
+    pub fn constant<const S: usize>(&mut self, bit: bool) -> Result<Sharing<S>, Memory>
+        requires size { (0 < S) × (S ≤ 16) }
+        ensures extends { Extends self.old self.new }
+        ensures stays { Stays self.old self.new }
+        ensures made { IfOk result (λ z. AddsStep (Step.Constant bit) S self.old self.new (replicate S 0) (replicate S 0) z.shares) }
+        ensures shares { IfOk result (λ z. IsSharing self.new.wires S z.shares) }
+        ensures value { IfOk result (λ z. AddsFact self.old self.new (λ cycles bits. IsAlways S cycles bits bit z.shares)) }
+        ensures cells { OnOk result (AddsCells self.old self.new) }
+        ensures registers { OnOk result (AddsRegisters 0 self.old self.new) }
+        ensures err { OnErr result (self.new ≡ self.old) }
+    {
+        let none = Sharing { shares: [0; S] };
+        let sharing = self.add_step(Step::Constant(bit), &none, &none)?;
+        Ok(sharing)
+    }
+
+    /// S registers whose next values are yet to be given, by `close`.
+    pub fn hold<const S: usize>(&mut self) -> Result<Sharing<S>, Memory>
+        requires size { (0 < S) × (S ≤ 16) }
+        ensures extends { Extends self.old self.new }
+        ensures stays { Stays self.old self.new }
+        ensures made { IfOk result (λ z. AddsStep Step.Hold S self.old self.new (replicate S 0) (replicate S 0) z.shares) }
+        ensures shares { IfOk result (λ z. IsSharing self.new.wires S z.shares) }
+        ensures held { IfOk result (λ z. AreHeld S self.new.wires z.shares) }
+        ensures value { OnOk result (AddsFact self.old self.new (λ cycles bits. Unit {0})) }
+        ensures cells { OnOk result (AddsCells self.old self.new) }
+        ensures registers { OnOk result (AddsRegisters S self.old self.new) }
+        ensures err { OnErr result (self.new ≡ self.old) }
+    {
+        let none = Sharing { shares: [0; S] };
+        let sharing = self.add_step(Step::Hold, &none, &none)?;
+        Ok(sharing)
+    }
+
+    /// Gives registers that were held their next values: each has in each cycle the bit that its share of `next` had in the cycle
+    /// before. What was said of the net's wires goes on holding.
+    pub fn close<const S: usize>(&mut self, held: &Sharing<S>, next: &Sharing<S>)
+        requires held { AreHeld S self.old.wires held.now.shares }
+        requires next { IsSharing self.old.wires S next.now.shares }
+        ensures made { self.new ≡ record self.old { wires = closed_wires S (share held.now.shares) (share next.now.shares) self.old.wires } }
+        ensures value { AddsFact self.old self.new (λ cycles bits. Delays S cycles bits next.now.shares held.now.shares) }
+    {
+        let _count = self.wires.len();
+        close_wires(held, next, &mut self.wires);
     }
 
     /// How many gadgets were begun before. No wire has a name of the one that is begun.

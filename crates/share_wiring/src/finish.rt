@@ -24,7 +24,7 @@ fn push_line(
             out.push(Equation { wire, expr })?;
             Ok(())
         }
-        Source::Input | Source::Register(_, _) => Ok(()),
+        Source::Input | Source::Register(_, _) | Source::Held => Ok(()),
     }
 }
 
@@ -39,7 +39,7 @@ pub fn equations(alloc: Global, wires: &[Wire]) -> Result<List<Equation>, Memory
     Ok(out)
 }
 
-// Adds the register of a wire that is one.
+// Adds the register of a wire that is one. One that is held keeps its bit.
 fn push_stored(wire: usize, source: Source, out: &mut List<Register>) -> Result<(), Memory>
     ensures { OnOk result (map stored_of out.new ≡ map stored_of out.old ++ stored_at wire source) }
 {
@@ -49,6 +49,14 @@ fn push_stored(wire: usize, source: Source, out: &mut List<Register>) -> Result<
                 q: wire,
                 next: Expr::Wire(next),
                 clock,
+            })?;
+            Ok(())
+        }
+        Source::Held => {
+            out.push(Register {
+                q: wire,
+                next: Expr::Wire(wire),
+                clock: 0,
             })?;
             Ok(())
         }

@@ -31,6 +31,8 @@ pub enum Source {
     Equation(Gate),
     /// The wire of the next value, and that of the clock.
     Register(usize, usize),
+    /// A register whose next value is yet to be given. Until then it keeps its bit.
+    Held,
 }
 
 /// A wire of a net that is built.
@@ -44,6 +46,8 @@ pub struct Wire {
 #[derive(Clone, Copy)]
 pub enum Step {
     Copy,
+    /// A constant: share 0 has it, and the others are 0.
+    Constant(bool),
     /// Share 0 alone, and 0 for the others.
     First,
     Not,
@@ -51,6 +55,8 @@ pub enum Step {
     /// The product with a public wire.
     And(usize),
     Delay,
+    /// Registers whose next values are given later.
+    Hold,
 }
 
 impl Gate {

@@ -1,8 +1,8 @@
 //! Sharings, and the wires that steps make of them.
 
-ghost use Rattle.std.specs.Prelude.{◌≡◌, ◌<◌, ◌≤◌, ◌+◌, ◌^◌, ◌++◌, length, take, OnOk, OnErr, IfOk};
+ghost use Rattle.std.specs.Prelude.{ℕ, ◌≡◌, ◌<◌, ◌≤◌, ◌+◌, ◌^◌, ◌++◌, length, take, cond, OnOk, OnErr, IfOk};
 ghost use Rattle.share_wiring.specs.Wiring.{share};
-ghost use Rattle.share_wiring.specs.Own.{own_name as own_name_of, own_wires, source_of, upto};
+ghost use Rattle.share_wiring.specs.Own.{own_name as own_name_of, own_wires, source_of, upto, closed_wires};
 
 use crate::gate::{Gate, Source, Step, Wire};
 use agm_bits::{Memory, Name};
@@ -14,12 +14,21 @@ pub struct Sharing<const S: usize> {
     pub shares: [usize; S],
 }
 
+// The gate of a constant.
+fn constant(bit: bool) -> Gate
+    ensures { result ≡ cond bit Gate.One Gate.Zero }
+{
+    if bit { Gate::One } else { Gate::Zero }
+}
+
 // The source of share i of what a step makes of two wires.
 fn source(step: Step, i: usize, x: usize, y: usize) -> Source
     ensures { result ≡ source_of step i x y }
 {
     match step {
         Step::Copy => Source::Equation(Gate::Same(x)),
+        Step::Constant(bit) if i == 0 => Source::Equation(constant(bit)),
+        Step::Constant(_) => Source::Equation(Gate::Zero),
         Step::First if i == 0 => Source::Equation(Gate::Same(x)),
         Step::First => Source::Equation(Gate::Zero),
         Step::Not if i == 0 => Source::Equation(Gate::Not(x)),
@@ -27,6 +36,7 @@ fn source(step: Step, i: usize, x: usize, y: usize) -> Source
         Step::Xor => Source::Equation(Gate::Xor(x, y)),
         Step::And(wire) => Source::Equation(Gate::And(wire, x)),
         Step::Delay => Source::Register(x, 0),
+        Step::Hold => Source::Held,
     }
 }
 
@@ -71,4 +81,15 @@ pub fn ascending<const S: usize>(first: usize) -> Sharing<S>
         shares[i] = first + i;
     }
     Sharing { shares }
+}
+
+/// Makes wires registers of the next values of their indices.
+pub fn close_wires<const S: usize>(held: &Sharing<S>, next: &Sharing<S>, wires: &mut Vec<Wire>)
+    requires { (i : ℕ) → i < S → share held.now.shares i < length wires.old.items }
+    ensures { wires.new.items ≡ closed_wires S (share held.now.shares) (share next.now.shares) wires.old.items }
+{
+    for i in 0..S {
+        let wire = held.shares[i];
+        wires[wire].source = Source::Register(next.shares[i], 0);
+    }
 }

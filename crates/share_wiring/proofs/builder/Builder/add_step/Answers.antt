@@ -1,8 +1,8 @@
 use Rattle.std.proofs.Common.{◌≡◌, ◌<◌, ◌+◌, ◌^◌, ◌∙◌, List, length, take, sym, ap, subst, arith}
 use Rattle.share_wiring.specs.Wiring.{Wiring, IsSharing, IsRun, share}
 use Rattle.share_wiring.specs.Own.{source_of, step_registers, upto}
-use Rattle.share_wiring.specs.Adds.{Extends, AddsRegisters}
-use Rattle.share_wiring.specs.Built.{IsBuilt, ReadsPublic}
+use Rattle.share_wiring.specs.Adds.{Extends, AddsStep, AddsRegisters}
+use Rattle.share_wiring.specs.Built.{IsBuilt, ReadsPublic, ReadsShares}
 use Rattle.share_wiring.specs.declared.gate.Wire.{Wire}
 use Rattle.share_wiring.proofs.Runs.{extends_append, extends_refl}
 use Rattle.share_wiring.proofs.OwnWires.{step_wires, step_built, step_adds_registers, step_room, made_sharing, made_keep}
@@ -15,8 +15,8 @@ invariant_of-self g c =
     let old : Wiring = record { ports = c.self.inside.ports.items; wires = c.self.inside.wires.items; gadgets = c.self.inside.gadgets; given = c.self.inside.given } in
     let x = c.args.x.now.shares in
     let y = c.args.y.now.shares in
-    let left = subst (λ (net : Wiring). IsSharing net.wires g.row.S x) (sym c.self.view_is) c.requires.left in
-    let right = subst (λ (net : Wiring). IsSharing net.wires g.row.S y) (sym c.self.view_is) c.requires.right in
+    let left = subst (λ (net : Wiring). ReadsShares c.args.step g.row.S net.wires x) (sym c.self.view_is) c.requires.left in
+    let right = subst (λ (net : Wiring). ReadsShares c.args.step g.row.S net.wires y) (sym c.self.view_is) c.requires.right in
     let public = subst (λ (net : Wiring). ReadsPublic net.wires c.args.step) (sym c.self.view_is) c.requires.public in
     let count = c.len-count.ensures in
     let fits = c.len-count.type_inv in
@@ -76,3 +76,10 @@ returns-in-Ok-clause-cells g c =
     let old : Wiring = record { ports = c.self.inside.ports.items; wires = c.self.inside.wires.items; gadgets = c.self.inside.gadgets; given = c.self.inside.given } in
     let new : Wiring = record old { wires = c.push_step.new.wires.items } in
     subst (λ (net : Wiring). AddsCells net new) c.self.view_is (step_cells old new g.row.S c.args.step c.args.x.now.shares c.args.y.now.shares c.in-Ok.ensures.ok)
+
+pub returns-in-Ok-clause-made : goal.returns-in-Ok-clause-made
+returns-in-Ok-clause-made g c =
+    let old : Wiring = record { ports = c.self.inside.ports.items; wires = c.self.inside.wires.items; gadgets = c.self.inside.gadgets; given = c.self.inside.given } in
+    let shown = c.ascending.ensures ∙ ap (λ k. upto g.row.S (λ i. k + i)) (c.len-first.ensures ∙ c.self.inside.wires.ok.0) in
+    subst (λ (net : Wiring). AddsStep c.args.step g.row.S net (record old { wires = c.push_step.new.wires.items }) c.args.x.now.shares c.args.y.now.shares c.ascending.result.shares) c.self.view_is
+    (record { made = ap (λ ws. record old { wires = ws }) c.in-Ok.ensures.ok; numbers = shown })

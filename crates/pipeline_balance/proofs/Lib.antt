@@ -1,0 +1,15 @@
+pub mod Solving
+pub mod Bridges
+pub mod Originals
+pub mod Masked
+pub mod Growing
+pub mod Toggle
+pub mod Making
+pub mod Widths
+pub mod Assembled
+pub mod PortSignals
+pub mod Adding
+pub mod Chaining
+pub mod Sizes
+pub mod Noding
+pub mod Filling

@@ -1,0 +1,131 @@
+-- A trace of a net is a run of each machine that computes what the net does.
+use Rattle.std.proofs.Common.{◌≡◌, ◌<◌, ◌+◌, ◌&&◌, ℕ, zero, suc, Bool, false, not, List, map, length, slice_get, get_or, Some, IsTrue, nat_lt, refl, sym, ap, ap₂, ◌∙◌, arith, inl, inr}
+use Rattle.std.proofs.lemmas.Bool.{and_parts, ltb-true}
+use Rattle.std.proofs.lemmas.Option.{slice_get-get_or, slice_get_within, get_or_from_slice_get, slice_get_cases}
+use Rattle.agm_net.specs.Formula.{xor, value, reads_below}
+use Rattle.agm_net.specs.Plain.{PlainNet, Stored}
+use Rattle.agm_net.specs.Trace.{Row, row_at, bit_at, IsTrace}
+use Rattle.agm_net.specs.WellFormed.{WellFormed}
+use Rattle.logic_graph.specs.Nodes.{reads_before, xan_reads_before}
+use Rattle.logic_graph.specs.Settled.{bit_of, IsSettled}
+use Rattle.logic_graph.specs.GraphOf.{IsGraphOf, drawing_of, output_bits}
+use Rattle.logic_graph.specs.Traces.{held, Computes}
+use Rattle.logic_graph.specs.declared.nodes.Node.{Node}
+use Rattle.logic_graph.specs.declared.nodes.XanNode.{XanNode}
+use Rattle.logic_graph.specs.declared.nodes.XanNode.TheVariants.{Zero, One, Input, Q, Not, Xor, And}
+use Rattle.logic_graph.specs.declared.graphs.Graph.{Graph}
+use Rattle.logic_graph.proofs.Lists.{all_of_one}
+use Rattle.logic_graph.proofs.Values.{same_value, wire_bit, stood, settled, is_settled}
+use Rattle.logic_graph.proofs.GraphMade.{reads_are_below, next_reads, get_image}
+use Rattle.logic_graph.proofs.OneTrace.{held_at}
+use Rattle.pipeline_balance.specs.Machines.{Machine, IsMachineRun, Solves, xan_value, out_node, next_node}
+use Rattle.pipeline_balance.specs.Originals.{IsMachineOf}
+
+-- ---- a graph in order has values
+
+-- the values of nodes, so many steps deep
+abbrev deep : List XanNode → (inputs registers : ℕ → Bool) → ℕ → ℕ → Bool
+deep nodes inputs registers zero k = false
+deep nodes inputs registers (suc n) k = xan_value inputs registers (deep nodes inputs registers n) (get_or nodes k Zero)
+
+abbrev pub evaluated : List XanNode → (inputs registers : ℕ → Bool) → ℕ → Bool
+evaluated nodes inputs registers = deep nodes inputs registers (length nodes)
+
+-- values that agree below a node give it one value
+value_same : (inputs registers x y : ℕ → Bool) (k : ℕ) (n : XanNode) → IsTrue (xan_reads_before k n) → ((j : ℕ) → j < k → x j ≡ y j) → xan_value inputs registers x n ≡ xan_value inputs registers y n
+value_same i r x y k Zero h a = refl
+value_same i r x y k One h a = refl
+value_same i r x y k (Input b) h a = refl
+value_same i r x y k (Q b) h a = refl
+value_same i r x y k (Not b) h a = ap not (a b (ltb-true b k h))
+value_same i r x y k (Xor b c) h a = let both = and_parts (nat_lt b k) (nat_lt c k) h in ap₂ xor (a b (ltb-true b k both.0)) (a c (ltb-true c k both.1))
+value_same i r x y k (And b c) h a = let both = and_parts (nat_lt b k) (nat_lt c k) h in ap₂ (λ p q. p && q) (a b (ltb-true b k both.0)) (a c (ltb-true c k both.1))
+
+module _ (nodes : List XanNode) (in_order : (k : ℕ) (n : XanNode) → slice_get nodes k ≡ Some n → IsTrue (xan_reads_before k n)) (inputs registers : ℕ → Bool) where
+  stays : (p q k : ℕ) → k < p → k < q → k < length nodes → deep nodes inputs registers p k ≡ deep nodes inputs registers q k
+  stays zero q k lp lq within = absurd (omega arith)
+  stays (suc p) zero k lp lq within = absurd (omega arith)
+  stays (suc p) (suc q) k lp lq within =
+      let n = get_or nodes k Zero in
+      value_same inputs registers (deep nodes inputs registers p) (deep nodes inputs registers q) k n (in_order k n (slice_get-get_or nodes k Zero within))
+      (λ j before. stays p q j (omega arith) (omega arith) (omega arith))
+
+  pub solves : Solves nodes inputs registers (evaluated nodes inputs registers)
+  solves k n at =
+      let within = slice_get_within nodes k n at in
+      stays (length nodes) (suc (length nodes)) k within (omega arith) within ∙ ap (xan_value inputs registers (evaluated nodes inputs registers)) (get_or_from_slice_get nodes k n Zero at)
+
+-- ---- traces of a net
+
+image_bit : {X : Type 0} (f : X → Bool) (xs : List X) (i : ℕ) (x : X) → slice_get xs i ≡ Some x → bit_of (map f xs) i ≡ f x
+image_bit f xs i x at = get_or_from_slice_get (map f xs) i (f x) false (get_image f xs i x at)
+
+found : {X : Type 0} (xs : List X) (i : ℕ) → i < length xs → (x : X) × (slice_get xs i ≡ Some x)
+found xs i lt = elim (slice_get_cases xs i).1 [ inl here ↦ (here.0, here.2) | inr past ↦ absurd (let le = past.0 in omega arith) ]
+
+module _ (net : PlainNet) (graph : Graph) (m : Machine) (well : WellFormed net) (graph_of : IsGraphOf net graph) (computes : Computes net graph)
+    (in_order : (k : ℕ) (n : Node) → slice_get graph.nodes k ≡ Some n → IsTrue (reads_before k n)) (of : IsMachineOf net graph m)
+    (power : Row) (tape table : List Row) (trace : IsTrace net power tape table) where
+  abbrev pub inputs_in : ℕ → ℕ → Bool
+  inputs_in k = bit_of (row_at tape k)
+
+  abbrev pub states_in : ℕ → ℕ → Bool
+  states_in k = bit_of (held net (bit_at table k))
+
+  abbrev pub values_in : ℕ → ℕ → Bool
+  values_in k = evaluated m.nodes (inputs_in k) (states_in k)
+
+  abbrev row_in : ℕ → Row
+  row_in k = settled graph (row_at tape k) (held net (bit_at table k))
+
+  row_settled : (k : ℕ) → IsSettled graph.nodes (row_at tape k) (held net (bit_at table k)) (row_in k)
+  row_settled k = is_settled graph in_order (row_at tape k) (held net (bit_at table k))
+
+  values_solve : (k : ℕ) → Solves m.nodes (inputs_in k) (states_in k) (values_in k)
+  values_solve k = (let machine = of.machine in solves m.nodes machine.in_order (inputs_in k) (states_in k))
+
+  wire_value : (k w : ℕ) → k < length table → w < length net.wires → bit_at table k w ≡ wire_bit graph.of_wire (row_in k) w
+  wire_value k w lt lw = computes power tape table trace k lt (row_in k) (row_settled k) w lw
+
+  -- the values at the sinks
+  at_sink : (k j node : ℕ) → slice_get graph.sinks j ≡ Some node → values_in k (get_or m.sinks j 0) ≡ bit_of (row_in k) node
+  at_sink k j node at =
+      of.same (row_at tape k) (held net (bit_at table k)) (row_in k) (values_in k) (row_settled k) (values_solve k) j (slice_get_within graph.sinks j node at)
+      ∙ ap (bit_of (row_in k)) (get_or_from_slice_get graph.sinks j node 0 at)
+
+  next_value : (k i : ℕ) (r : Stored) → k < length table → slice_get net.registers i ≡ Some r → values_in k (next_node m i) ≡ value (bit_at table k) r.next
+  next_value k i r lt at =
+      let next = graph_of.next i r at in
+      let count = of.outputs in
+      let place : m.outputs + i ≡ length (output_bits net) + i = omega arith in
+      let reads : IsTrue (reads_below (length net.wires) r.next) = all_of_one (λ f. IsTrue (reads_below (length net.wires) f)) (map (λ (x : Stored). x.next) net.registers) i r.next (next_reads net well) (get_image (λ (x : Stored). x.next) net.registers i r at) in
+      ap (λ j. values_in k (get_or m.sinks j 0)) place
+      ∙ (at_sink k (length (output_bits net) + i) next.0 next.1
+      ∙ (sym (stood (drawing_of graph) (row_at tape k) (held net (bit_at table k)) (row_in k) (row_settled k) r.next _ next.0 next.2)
+      ∙ sym (same_value (bit_at table k) (wire_bit graph.of_wire (row_in k)) r.next (λ w stands_w. wire_value k w lt (reads_are_below (length net.wires) r.next reads w stands_w)))))
+
+  pub trace_runs : IsMachineRun m (length table) (bit_of power) inputs_in states_in values_in
+  trace_runs = record {
+    begins = λ r some known. ap (λ row. bit_of row r) (trace.power_given some);
+    solves = λ k lt. values_solve k;
+    goes_on = λ k r lt known. (
+        let count = of.registers in
+        let stored = found net.registers r (omega arith) in
+        ap (λ row. bit_of row r) (held_at net power tape table trace k lt)
+        ∙ (image_bit (λ (x : Stored). value (bit_at table k) x.next) net.registers r stored.0 stored.1
+        ∙ sym (next_value k r stored.0 (omega arith) stored.1)));
+  }
+
+  -- the outputs of the run are those of the trace
+  pub trace_outputs : (k o : ℕ) → k < length table → o < length (output_bits net) → values_in k (out_node m o) ≡ bit_of (map (bit_at table k) (output_bits net)) o
+  trace_outputs k o lt known =
+      let wire = found (output_bits net) o known in
+      let total = graph_of.sinks in
+      let node = found graph.sinks o (omega arith) in
+      let of_wire : slice_get graph.of_wire wire.0 ≡ Some node.0 = sym (graph_of.outputs o wire.0 wire.1) ∙ node.1 in
+      let within = slice_get_within graph.of_wire wire.0 node.0 of_wire in
+      let wires = graph_of.wires in
+      at_sink k o node.0 node.1
+      ∙ (sym (ap (bit_of (row_in k)) (get_or_from_slice_get graph.of_wire wire.0 node.0 0 of_wire))
+      ∙ (sym (wire_value k wire.0 lt (omega arith))
+      ∙ sym (image_bit (bit_at table k) (output_bits net) o wire.0 wire.1)))

@@ -1,0 +1,12 @@
+pub mod Machines
+pub mod Signals
+pub mod Pipelines
+pub mod Shared
+pub mod Originals
+pub mod Masked
+pub mod Growing
+pub mod Toggle
+pub mod Assembled
+pub mod Valued
+pub mod Ranks
+pub mod Chained

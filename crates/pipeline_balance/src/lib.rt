@@ -1,0 +1,12 @@
+//! Pipelined masked nets: paths filled up with registers, so that several streams are in flight.
+#![tactic(auto)]
+
+mod chains;
+mod laws;
+mod nodes;
+mod values;
+
+pub use chains::{Chain, Layout};
+pub use laws::{pipelined_is_same, pipelines_are_right, toggle_is_driven, traces_are_runs};
+pub use nodes::make_nodes;
+pub use values::Value;
