@@ -6,8 +6,8 @@ use Rattle.std.proofs.lemmas.Fmt.{decimal_injective}
 use Rattle.std.proofs.lemmas.Bool.{cases_lt}
 use Rattle.agm_net.specs.Writable.{is_graphic, IsWritable}
 use Rattle.agm_net.specs.Label.{PartKind, k_clk, k_a, k_b, k_r, k_rr, k_bb, k_vx, k_v, k_na, k_ux, k_u, k_wx, k_w, k_mx, k_m, k_s, k_c, part_text, part_name, gadget_name, pairs_before, pair_number, counts_as, l_part, IsOfShare}
+use Rattle.agm_net.proofs.Lists.{all_joined}
 use Rattle.share_wiring.specs.Built.{IsNew}
-use Rattle.share_wiring.proofs.Lists.{all_joined}
 use Rattle.share_wiring.proofs.Digits.{decimal_graphic, cut_number_above}
 use Rattle.hpc2_gadget.specs.Kinds.{is_of_share}
 use Rattle.hpc2_gadget.specs.Order.{rank, cell, turn, last_partner, PairFits, IsIndex, Below}

@@ -1,14 +1,10 @@
 pub mod Lists
 pub mod Recombine
-pub mod Unique
-pub mod Loops
 pub mod Drivers
 pub mod Names
 pub mod Ports
 pub mod ShapePorts
-pub mod Solved
-pub mod Settled
-pub mod HasTrace
+pub mod Given
 pub mod Driven
 pub mod Distinct
 pub mod Inverted
