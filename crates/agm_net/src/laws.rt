@@ -5,7 +5,7 @@ ghost use Rattle.std.specs.List.{AllByRecursion};
 ghost use Rattle.agm_net.specs.Loop.{reads, HasNoLoop, IsRanked};
 ghost use Rattle.agm_net.specs.Plain.{Line, PlainNet};
 ghost use Rattle.agm_net.specs.Run.{Driver, HasDriver, driver, reads_now, reads_ever};
-ghost use Rattle.agm_net.specs.Run.{asked, before, bit_in, run_of, KeepsDrivers, Fits};
+ghost use Rattle.agm_net.specs.Run.{bit_in, run_of, KeepsDriver, KeepsDrivers, Fits};
 ghost use Rattle.agm_net.specs.Small.{InOrder, IsFresh};
 ghost use Rattle.agm_net.specs.Trace.{Row, Holds, row_at, bit_at, IsTrace};
 ghost use Rattle.agm_net.specs.WellFormed.{WellFormed};
@@ -49,8 +49,7 @@ pub fn keeps_drivers()
 /// bits are 0.
 pub fn run_keeps_drivers()
     ensures { (net : PlainNet) (power : Row) (tape : List Row) (t w : ℕ) → WellFormed net →
-        HasNoLoop net → w < length net.wires →
-        bit_in net power tape t w ≡ asked (driver net w) power tape (before (bit_in net power tape) t) (bit_in net power tape t) t }
+        HasNoLoop net → w < length net.wires → KeepsDriver net power tape (bit_in net power tape) t w }
 {}
 
 /// The run of a net without a loop is a trace.

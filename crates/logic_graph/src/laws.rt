@@ -28,7 +28,8 @@ pub fn traces_have_cycles()
 pub fn nodes_have_values()
     ensures { (graph : Graph) (inputs registers : ℕ → Bool) → (values : ℕ → Bool) ×
         AreValues graph.nodes inputs registers values ×
-        ((other : ℕ → Bool) → AreValues graph.nodes inputs registers other → (k : ℕ) → k < length graph.nodes → other k ≡ values k) }
+        ((other : ℕ → Bool) → AreValues graph.nodes inputs registers other →
+        (k : ℕ) → k < length graph.nodes → other k ≡ values k) }
 {}
 
 /// The same as rows.
