@@ -49,11 +49,15 @@ abbrev pub before : (ℕ → ℕ → Bool) → ℕ → ℕ → Bool
 before x zero w = false
 before x (suc t) w = x t w
 
--- A table of the size of a trace in which each wire has the bit that its driver asks for, in each cycle.
+-- of bits x in each cycle, wire w has in cycle t the one that its driver asks for
+abbrev pub KeepsDriver : PlainNet → Row → List Row → (ℕ → ℕ → Bool) → ℕ → ℕ → Type 0
+KeepsDriver net power tape x t w = x t w ≡ asked (driver net w) power tape (before x t) (x t) t
+
+-- A table of the size of a trace in which each wire keeps its driver in each cycle.
 pub record KeepsDrivers (net : PlainNet) (power : Row) (tape table : List Row) : Type 0 where
   pub as_long : length table ≡ length tape
   pub as_wide : (t : ℕ) → t < length table → length (row_at table t) ≡ length net.wires
-  pub keeps : (t w : ℕ) → t < length table → w < length net.wires → bit_at table t w ≡ asked (driver net w) power tape (before (bit_at table) t) (bit_at table t) t
+  pub keeps : (t w : ℕ) → t < length table → w < length net.wires → KeepsDriver net power tape (bit_at table) t w
 
 -- whether what drives a wire reads v in the same cycle, and whether it does so or stores it
 abbrev pub reads_now : Driver → ℕ → Bool

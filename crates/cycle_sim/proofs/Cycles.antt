@@ -1,9 +1,8 @@
 -- Cycles of a simulator.
-use Rattle.std.proofs.Common.{◌≡◌, ◌<◌, ◌≤◌, ◌+◌, ◌-◌, ◌++◌, ◌∷◌, [], ◌⊎◌, ℕ, zero, suc, Bool, true, false, List, length, length-append, map, drop, slice_get, get_or, Some, IsTrue, nat_lt, ltb-true, refl, sym, zero-add, ap, ap₂, ◌∙◌, subst, arith, inl, inr, append_assoc}
-use Rattle.std.proofs.lemmas.Option.{slice_get-get_or, slice_get_within, get_or_from_slice_get}
+use Rattle.std.proofs.Common.{◌≡◌, ◌<◌, ◌+◌, ◌-◌, ◌++◌, ◌∷◌, [], ◌⊎◌, ℕ, zero, suc, Bool, true, false, List, length, length-append, map, drop, slice_get, Some, IsTrue, refl, sym, zero-add, ap, ap₂, ◌∙◌, subst, arith, inl, inr, append_assoc}
 use Rattle.std.proofs.lemmas.List.{length-drop, length-map}
 use Rattle.std.proofs.lemmas.Bool.{lt-ltb}
-use Rattle.agm_net.specs.Formula.{value, stands, reads_below}
+use Rattle.agm_net.specs.Formula.{value, reads_below}
 use Rattle.agm_net.specs.Plain.{PlainNet, Stored, input_bits}
 use Rattle.agm_net.specs.Trace.{Row, row_at, bit_at, IsTrace}
 use Rattle.agm_net.specs.WellFormed.{WellFormed}

@@ -1,13 +1,13 @@
 -- Values of nodes, one after another.
-use Rattle.std.proofs.Common.{◌≡◌, ◌≢◌, ◌<◌, ◌≤◌, ◌+◌, ◌++◌, ◌∷◌, [], ℕ, zero, suc, Bool, true, false, ◌&&◌, List, length, slice_get, slice_set, get_or, take, Some, IsTrue, nat_lt, ltb-true, refl, sym, ap, ◌∙◌, subst, arith, inl, inr}
+use Rattle.std.proofs.Common.{◌≡◌, ◌<◌, ◌≤◌, ◌+◌, ◌++◌, ◌∷◌, [], ℕ, Bool, false, ◌&&◌, List, length, slice_get, slice_set, take, Some, IsTrue, nat_lt, ltb-true, refl, sym, ap, ◌∙◌, subst, arith, inl, inr}
 use Rattle.std.proofs.lemmas.Bool.{cases_eq, and_parts, and_from, lt-ltb}
 use Rattle.std.proofs.lemmas.List.{get_or-set_same, get_or-set_other, take_more}
-use Rattle.std.proofs.lemmas.Option.{slice_get-get_or, slice_get_within, get_or_from_slice_get}
+use Rattle.std.proofs.lemmas.Option.{slice_get_within, get_or_from_slice_get}
 use Rattle.agm_net.specs.Trace.{Row}
 use Rattle.logic_graph.specs.declared.nodes.Node.{Node}
 use Rattle.logic_graph.specs.declared.nodes.Node.TheVariants.{Zero, One, Input, Q, Not, Xor, And, Or, Mux}
 use Rattle.logic_graph.specs.Nodes.{reads_before}
-use Rattle.logic_graph.specs.Settled.{bit_of, node_value, IsSettled}
+use Rattle.logic_graph.specs.Settled.{bit_of, node_value}
 use Rattle.logic_graph.proofs.Values.{node_same}
 
 -- two places below a later one

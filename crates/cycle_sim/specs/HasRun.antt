@@ -1,10 +1,10 @@
 -- What a simulator has run.
-use Rattle.std.specs.Prelude.{◌≡◌, ◌<◌, ◌+◌, ◌++◌, ◌∷◌, ℕ, Bool, true, false, List, [], length}
+use Rattle.std.specs.Prelude.{◌≡◌, ◌<◌, ◌++◌, ◌∷◌, true, false, List, [], length}
 use Rattle.agm_net.specs.Plain.{PlainNet, input_bits}
 use Rattle.agm_net.specs.Trace.{Row, bit_at, IsTrace}
 use Rattle.agm_net.specs.WellFormed.{WellFormed}
 use Rattle.logic_graph.specs.Settled.{IsSettled}
-use Rattle.logic_graph.specs.GraphOf.{IsGraphOf, output_bits}
+use Rattle.logic_graph.specs.GraphOf.{IsGraphOf}
 use Rattle.logic_graph.specs.Traces.{held, Computes}
 use Rattle.cycle_sim.specs.declared.sim.Sim.{Sim}
 

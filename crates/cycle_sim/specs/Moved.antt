@@ -1,5 +1,5 @@
 -- The two halves of a step.
-use Rattle.std.specs.Prelude.{◌≡◌, ◌-◌, Bool, true, map, drop, length}
+use Rattle.std.specs.Prelude.{◌≡◌, ◌-◌, true, map, drop, length}
 use Rattle.agm_net.specs.Trace.{Row}
 use Rattle.logic_graph.specs.Settled.{bit_of, IsSettled}
 use Rattle.cycle_sim.specs.declared.sim.Sim.{Sim}

@@ -8,7 +8,7 @@ use Rattle.agm_net.specs.declared.label.PartKind.{PartKind}
 use Rattle.agm_net.specs.declared.label.PartKind.TheVariants.{Clk, A, B, R, Rr, Bb, Vx, V, Na, Ux, U, Wx, W, Mx, M, S, C}
 use Rattle.agm_net.proofs.OnePart.{word, tail, text_is, word_letters, same_text, same_numbers}
 use Rattle.share_wiring.specs.Built.{IsNew}
-use Rattle.share_wiring.proofs.Lists.{all_from, all_joined}
+use Rattle.agm_net.proofs.Lists.{all_from, all_joined}
 use Rattle.share_wiring.proofs.Digits.{decimal_graphic, AreGraphic}
 use Rattle.hpc2_gadget.specs.Order.{rank, IsIndex, Below}
 

@@ -11,7 +11,7 @@ use Rattle.std.proofs.lemmas.Option.{slice_get-get_or, slice_get_within}
 use Rattle.agm_net.specs.Formula.{Formula}
 use Rattle.agm_net.specs.Plain.{PlainNet, input_bits, clock_bits}
 use Rattle.agm_net.specs.WellFormed.{WellFormed}
-use Rattle.agm_net.proofs.Lists.{all_joined, all_of_one, any_at, count_append, count_no, count_some, count_yes}
+use Rattle.agm_net.proofs.Lists.{all_found, all_joined, all_of_one, any_at, count_append, count_no, count_some, count_yes, found_of_all, some_counted}
 use Rattle.agm_net.proofs.Wires.{clock_is_wire, inputs_are_wires, one_way, registers_fit, times, times_outputs}
 use Rattle.logic_graph.specs.declared.nodes.Node.{Node}
 use Rattle.logic_graph.specs.declared.nodes.Node.TheVariants.{Zero, One, Input, Q}
@@ -71,12 +71,7 @@ pub record Sourced (net : PlainNet) : Type 0 where
 
 -- what stands among wires is one
 pub among : (n : ℕ) (ws : List ℕ) (w : ℕ) → AllByRecursion (λ v. v < n) ws → 0 < times w ws → w < n
-among n [] w all some = absurd (omega arith)
-among n (v ∷ vs) w all some =
-    elim (cases_Bool (v == w)) [
-      | inl same ↦ subst (λ u. u < n) (eqb-true v w same) all.0
-      | inr apart ↦ (let rest = count_no (λ b. b == w) v vs apart in among n vs w all.1 (omega arith))
-    ]
+among n ws w all some = found_of_all (λ v. v < n) ws all w (some_counted (λ b. b == w) ws (omega arith))
 
 pub all_qs : (net : PlainNet) → WellFormed net → AllByRecursion (λ w. w < length net.wires) (map (λ r. r.q) net.registers)
 all_qs net well =
@@ -88,14 +83,7 @@ all_qs net well =
 
 -- what holds of each wire that stands in a list
 pub each_wire : (P : ℕ → Type 0) (ws : List ℕ) → ((w : ℕ) → 0 < times w ws → P w) → AllByRecursion P ws
-each_wire P [] h = tt
-each_wire P (v ∷ vs) h = (
-  h v (let one = count_yes (λ b. b == v) v vs (eq-eqb v v refl) in omega arith),
-  each_wire P vs (λ w some. h w (elim (cases_Bool (v == w)) [
-    | inl same ↦ (let one = count_yes (λ b. b == w) v vs same in omega arith)
-    | inr apart ↦ (let rest = count_no (λ b. b == w) v vs apart in omega arith)
-  ])),
-)
+each_wire P ws h = all_found P ws (λ w found. h w (let some = count_some (λ b. b == w) ws found in omega arith))
 
 pub sourced : (net : PlainNet) → WellFormed net → Sourced net
 sourced net well =

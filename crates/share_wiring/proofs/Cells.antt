@@ -7,7 +7,7 @@ use Rattle.share_wiring.specs.declared.gate.Source.{Source}
 use Rattle.share_wiring.specs.declared.gate.Step.{Step}
 use Rattle.share_wiring.specs.declared.gate.Step.TheVariants as step
 use Rattle.share_wiring.specs.declared.gate.Wire.{Wire}
-use Rattle.share_wiring.proofs.Lists.{all_joined}
+use Rattle.agm_net.proofs.Lists.{all_joined}
 use Rattle.share_wiring.proofs.OwnWires.{step_wires, each_source}
 use Rattle.share_wiring.proofs.PortWires.{bit_wire_sources}
 

@@ -6,11 +6,10 @@ use Rattle.std.proofs.lemmas.Bool.{and_parts, not-true, both_ways, or_cases, eqb
 use Rattle.std.proofs.lemmas.Slice.Eq.{bytes_eq-Decides}
 use Rattle.agm_net.specs.Formula.{xor, Formula, f_zero, f_one, f_wire, f_not, f_and, f_or, f_xor, f_mux, value, stands}
 use Rattle.agm_net.specs.Plain.{Line, Stored, PlainNet, input_bits, clock_bits}
-use Rattle.agm_net.specs.Small.{ReadsKnown}
+use Rattle.agm_net.specs.Small.{ReadsKnown, IsFresh}
 use Rattle.agm_net.specs.Trace.{Row, row_at, bit_at, Holds, Steps, IsTrace}
 use Rattle.agm_net.specs.WellFormed.{Differ}
 use Rattle.share_wiring.proofs.Distinct.{Distinct, differ_from_Distinct}
-use Rattle.share_wiring.proofs.Loops.{IsFresh}
 
 -- a test that each number in a row passes
 all_pass : (test : ℕ → Bool) (a n i : ℕ) → IsTrue (list_all test (range_with_len a n)) → i < n → IsTrue (test (a + i))

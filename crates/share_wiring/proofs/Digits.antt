@@ -5,7 +5,7 @@ use Rattle.std.specs.Fmt.{decimal}
 use Rattle.std.proofs.lemmas.Fmt.{decimal_by_steps, decimal_injective}
 use Rattle.agm_net.specs.Writable.{is_graphic}
 use Rattle.agm_net.specs.Label.{IsSome, gadget_name}
-use Rattle.share_wiring.proofs.Lists.{all_from, all_joined}
+use Rattle.agm_net.proofs.Lists.{all_from, all_joined}
 
 -- each byte is a digit
 abbrev pub AreDigits : List ℕ → Type 0

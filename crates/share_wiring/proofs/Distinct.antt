@@ -2,7 +2,7 @@
 use Rattle.std.proofs.Common.{◌≢◌, ℕ, zero, suc, List, [], ◌∷◌, refl, sym, arith}
 use Rattle.std.specs.List.{AllByRecursion}
 use Rattle.agm_net.specs.WellFormed.{Differ}
-use Rattle.share_wiring.proofs.Lists.{all_of_one}
+use Rattle.agm_net.proofs.Lists.{all_of_one}
 
 -- no two items are the same
 abbrev pub Distinct : {X : Type 0} → List X → Type 0

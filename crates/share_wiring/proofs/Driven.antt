@@ -10,19 +10,23 @@ use Rattle.std.proofs.lemmas.Slice.Eq.{bytes_eq-Decides}
 use Rattle.agm_net.specs.Formula.{xor}
 use Rattle.agm_net.specs.Loop.{HasNoLoop}
 use Rattle.agm_net.specs.Plain.{PlainNet, is_in, is_input, input_bits, data_ports, ports_but}
+use Rattle.agm_net.specs.Run.{run_of}
 use Rattle.agm_net.specs.Role.{share_name, state_name}
 use Rattle.agm_net.specs.Trace.{Row, row_at, bit_at, IsTrace}
 use Rattle.agm_net.specs.WellFormed.{Differ, WellFormed}
 use Rattle.agm_net.specs.declared.port.Port.{Port}
 use Rattle.agm_net.specs.declared.port.Way.{Way}
 use Rattle.agm_net.specs.declared.port.Way.TheVariants.{Input, Output}
+use Rattle.agm_net.proofs.Driving.{input_once}
+use Rattle.agm_net.proofs.Traces.{run_is_trace}
+use Rattle.agm_net.proofs.Lists.{all_joined, all_of_one, get_image}
 use Rattle.share_wiring.specs.Recombine.{xor_rows, recombined_rows, port_value, is_shared, masked_value}
 use Rattle.share_wiring.specs.Shape.{Shape, Header, header_of, indices, input_of_width, one_input, masked_headers}
 use Rattle.share_wiring.specs.Schedule.{Stream, stream_at, load_cycles, IsInputCycle, reading_cycle, input_values, Drives}
 use Rattle.share_wiring.specs.Driven.{IsStateless, IsStimulus}
 use Rattle.share_wiring.specs.declared.report.Report.{Report}
-use Rattle.share_wiring.proofs.HasTrace.{given, given_row, data_once, table_of, has_trace}
-use Rattle.share_wiring.proofs.Lists.{all_joined, all_of_one, all_in_range, agree_at, map_flat_map, flat_map_nothing}
+use Rattle.share_wiring.proofs.Given.{given, given_row}
+use Rattle.share_wiring.proofs.Lists.{all_in_range, agree_at, map_flat_map, flat_map_nothing}
 use Rattle.share_wiring.proofs.Names.{names_apart}
 use Rattle.share_wiring.proofs.Ports.{bits_named, rows_recombine}
 use Rattle.share_wiring.proofs.ShapePorts.{IsOneOf, one_at, data_port, HasPort, share_port, load_port, width, port_bits, bit_count}
@@ -73,11 +77,6 @@ entry bit p = (share_name 0 p.name, map bit p.bits)
 abbrev entries : Bool → (ℕ → Bool) → List Port → List (List ℕ × Row)
 entries load bit ports = (codes "agm_load", load ∷ []) ∷ map (entry bit) ports
 
-pub get_mapped : {X Y : Type 0} (f : X → Y) (xs : List X) (n : ℕ) (x : X) → slice_get xs n ≡ Some x → slice_get (map f xs) n ≡ Some (f x)
-get_mapped f [] n x at = absurd (cc)
-get_mapped f (y ∷ ys) zero x at = let is : y ≡ x = cc in ap (λ z. Some (f z)) is
-get_mapped f (y ∷ ys) (suc n) x at = get_mapped f ys n x at
-
 pub within_mapped : {X Y : Type 0} (f : X → Y) (xs : List X) (n : ℕ) (x : X) → slice_get xs n ≡ Some x → n < length (map f xs)
 within_mapped f [] n x at = absurd (cc)
 within_mapped f (y ∷ ys) zero x at = omega arith
@@ -93,7 +92,7 @@ own_entry bit (q ∷ qs) (suc n) p differ at =
     let within = within_mapped (λ r. r.name) qs n p at in
     let apart : bytes_eq (share_name 0 q.name) (share_name 0 p.name) ≡ false = false_from_ne_true (bytes_eq (share_name 0 q.name) (share_name 0 p.name)) (λ h.
     let same = (names_apart 0 0 q.name p.name (omega arith) (omega arith) ((bytes_eq-Decides (share_name 0 q.name) (share_name 0 p.name)).0 h)).1 in
-    differ 0 (suc n) (omega arith) (omega (arith, within)) (ap (λ x. Some x) same ∙ sym (get_mapped (λ r. r.name) qs n p at))) in
+    differ 0 (suc n) (omega arith) (omega (arith, within)) (ap (λ x. Some x) same ∙ sym (get_image (λ r. r.name) qs n p at))) in
     cond-false (bytes_eq (share_name 0 q.name) (share_name 0 p.name)) (map bit q.bits) (lookup (map (entry bit) qs) (share_name 0 p.name)) apart
     ∙ own_entry bit qs n p (λ v w lt below. differ (suc v) (suc w) (omega (arith, lt)) (omega (arith, below))) at
 
@@ -254,13 +253,13 @@ module _ (original : PlainNet) (report : Report) (net : PlainNet) (streams : Lis
   tape = map (λ t. map (cycle t) (input_bits net)) (range_with_len 0 cycles)
 
   abbrev table : List Row
-  table = table_of net power tape
+  table = run_of net power tape
 
   tape_fits : AllByRecursion (λ row. length row ≡ length (input_bits net)) tape
   tape_fits = all_in_range (λ row. length row ≡ length (input_bits net)) (λ t. map (cycle t) (input_bits net)) 0 cycles (λ t lt. length-map (input_bits net) (cycle t))
 
   trace : IsTrace net power tape table
-  trace = has_trace net power tape well no_loop powered tape_fits
+  trace = run_is_trace net well no_loop power tape (record { powered = powered; as_wide = tape_fits })
 
   as_many : length table ≡ cycles
   as_many = trace.as_long ∙ length-map-range_with_len (λ t. map (cycle t) (input_bits net)) 0 cycles
@@ -325,7 +324,7 @@ module _ (original : PlainNet) (report : Report) (net : PlainNet) (streams : Lis
   inputs_are t lt count =
       filtered (λ p. masked_value net report p.name (bit_at table t)) (λ p. map (step_bits t) p.bits) is_input (data_ports original) (λ n p at input. value_is t n p lt at input)
       ∙ (sym (map_flat_map (step_bits t) (λ p. p.bits) (filter is_input (data_ports original)))
-      ∙ given_row (input_bits original) (step_row t) count (data_once original first))
+      ∙ given_row (input_bits original) (step_row t) count (input_once original first))
 
   -- no port has another name
   others : (name : List ℕ) → bytes_eq (codes "agm_clk") name ≡ false → bytes_eq (codes "agm_load") name ≡ false → bytes_eq (codes "agm_r") name ≡ false

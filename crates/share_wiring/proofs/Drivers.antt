@@ -1,65 +1,17 @@
 -- Each wire of a net without registers is an input bit or the wire of one equation.
-use Rattle.std.proofs.Common.{◌≡◌, ◌<◌, ◌≤◌, ◌+◌, ◌==◌, ◌++◌, ℕ, slice_get, Some, Bool, true, false, ◌&&◌, ◌||◌, List, [], ◌∷◌, map, filter, length, IsTrue, nat_lt, count_by, refl, sym, ap, ◌∙◌, inl, inr, eq-eqb, arith, flat_map, ltb-true}
-use Rattle.std.specs.List.{AllByRecursion, list_any, list_all}
-use Rattle.std.proofs.lemmas.Option.{slice_get_within}
-use Rattle.std.proofs.lemmas.List.Elements.{filter-append}
-use Rattle.std.proofs.lemmas.Grind.{flat_map-append}
-use Rattle.std.proofs.lemmas.Bool.{eqb-true, or_cases, and_parts, cases_Bool, false_from_ne_true}
+use Rattle.std.proofs.Common.{◌≡◌, ◌<◌, ◌≤◌, ◌+◌, ◌==◌, ℕ, Bool, true, false, ◌||◌, List, [], ◌∷◌, length, IsTrue, count_by, refl, sym, ap, ◌∙◌, inl, inr, eq-eqb, arith}
+use Rattle.std.specs.List.{AllByRecursion, list_any}
+use Rattle.std.proofs.lemmas.Bool.{eqb-true, or_cases, cases_Bool, false_from_ne_true}
 use Rattle.agm_net.specs.Formula.{reads_below}
-use Rattle.agm_net.specs.Plain.{Line, PlainNet, is_input}
+use Rattle.agm_net.specs.Plain.{Line, PlainNet}
 use Rattle.agm_net.specs.WellFormed.{WellFormed}
-use Rattle.agm_net.specs.Small.{InOrder}
-use Rattle.agm_net.specs.declared.port.Port.{Port}
-use Rattle.share_wiring.proofs.Lists.{all_from, count_yes, count_more, count_some, count_none, some_counted}
-use Rattle.share_wiring.proofs.Loops.{IsFresh}
-
--- the bits of the input ports among some ports
-abbrev pub inputs_of : List Port → List ℕ
-inputs_of ports = flat_map (λ p. p.bits) (filter is_input ports)
-
--- whether a wire is one of them
-abbrev pub is_input_of : List Port → ℕ → Bool
-is_input_of ports w = list_any (λ b. b == w) (inputs_of ports)
-
--- the input bits of a net, its clock's among them
-abbrev pub bits_in : PlainNet → List ℕ
-bits_in net = inputs_of net.ports
-
--- whether a wire is one of them
-abbrev pub is_bit_in : PlainNet → ℕ → Bool
-is_bit_in net = is_input_of net.ports
-
--- the input bits of ports and others
-pub inputs_joined : (ps qs : List Port) → inputs_of (ps ++ qs) ≡ inputs_of ps ++ inputs_of qs
-inputs_joined ps qs = ap (flat_map (λ p. p.bits)) (filter-append is_input ps qs) ∙ flat_map-append (λ p. p.bits) (filter is_input ps) (filter is_input qs)
-
--- the wires that have names are wires
-pub named_wires : (wires : List (List ℕ)) (ws : List ℕ) (names : List (List ℕ)) → map (slice_get wires) ws ≡ map (λ name. Some name) names → AllByRecursion (λ w. w < length wires) ws
-named_wires wires [] names same = tt
-named_wires wires (w ∷ ws) [] same = absurd (cc)
-named_wires wires (w ∷ ws) (name ∷ names) same =
-    let head : slice_get wires w ≡ Some name = cc in
-    let tail : map (slice_get wires) ws ≡ map (λ n. Some n) names = cc in
-    (slice_get_within wires w name head, named_wires wires ws names tail)
+use Rattle.agm_net.specs.Small.{InOrder, IsFresh}
+use Rattle.agm_net.proofs.Wires.{bits_in, is_bit_in, lines_fit}
+use Rattle.agm_net.proofs.Lists.{all_from, count_more, count_none, count_some, count_yes, some_counted}
 
 -- how many of some equations are for wire w
 abbrev pub lines_for : List Line → ℕ → ℕ
 lines_for lines w = count_by (λ l. l.0 == w) lines
-
--- equations whose numbers are below n
-lines_below : (n : ℕ) (lines : List Line) → IsTrue (list_all (λ l. nat_lt l.0 n && reads_below n l.1) lines) → AllByRecursion (λ l. (l.0 < n) × IsTrue (reads_below n l.1)) lines
-lines_below n [] h = tt
-lines_below n (l ∷ ls) h =
-    let parts = and_parts (nat_lt l.0 n && reads_below n l.1) (list_all (λ k. nat_lt k.0 n && reads_below n k.1) ls) h in
-    let both = and_parts (nat_lt l.0 n) (reads_below n l.1) parts.0 in
-    ((ltb-true l.0 n both.0, both.1), lines_below n ls parts.1)
-
--- equations are for wires and read wires
-pub lines_fit : (net : PlainNet) → WellFormed net → AllByRecursion (λ l. (l.0 < length net.wires) × IsTrue (reads_below (length net.wires) l.1)) net.lines
-lines_fit net well =
-    let n = length net.wires in
-    let parts = and_parts (list_all (λ l. nat_lt l.0 n && reads_below n l.1) net.lines) (list_all (λ r. nat_lt r.q n && (reads_below n r.next && nat_lt r.clock n)) net.registers) well.in_range in
-    lines_below n net.lines parts.0
 
 -- equations in order, each for another wire and none for a known one, are fresh
 fresh_from_counts : (n : ℕ) (known : ℕ → Bool) (lines : List Line) → AllByRecursion (λ l. l.0 < n) lines → InOrder known lines

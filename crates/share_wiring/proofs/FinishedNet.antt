@@ -14,6 +14,8 @@ use Rattle.agm_net.specs.WellFormed.{drivers, numbers_fit, is_clock_port, WellFo
 use Rattle.agm_net.specs.Loop.{reads, last_of, HasNoLoop}
 use Rattle.agm_net.specs.Trace.{Row, bit_at, IsTrace}
 use Rattle.agm_net.specs.declared.port.Port.{Port}
+use Rattle.agm_net.proofs.Lists.{all_joined, all_of_one, count_no, count_yes}
+use Rattle.agm_net.proofs.Ranks.{chain_falls}
 use Rattle.share_wiring.specs.Gates.{gate_formula, gate_below}
 use Rattle.share_wiring.specs.Wiring.{Wiring, IsRun, Keeps, names, source_at, line_at, stored_at, lines_below, stored_below, net_of}
 use Rattle.share_wiring.specs.Built.{source_fits, AreDistinct, HasItsBits, input_uses, is_stored, clock_port, IsBuilt}
@@ -22,9 +24,8 @@ use Rattle.share_wiring.specs.declared.gate.Gate.TheVariants.{Zero, One, Same, N
 use Rattle.share_wiring.specs.declared.gate.Source.{Source}
 use Rattle.share_wiring.specs.declared.gate.Source.TheVariants.{Input, Equation, Register, Held}
 use Rattle.share_wiring.specs.declared.gate.Wire.{Wire}
-use Rattle.share_wiring.proofs.Lists.{all_front, all_back, all_joined, all_of_one, count_yes, count_no}
+use Rattle.share_wiring.proofs.Lists.{all_front, all_back}
 use Rattle.share_wiring.proofs.Distinct.{Distinct, differ_from_Distinct}
-use Rattle.share_wiring.proofs.Loops.{chain_falls}
 use Rattle.share_wiring.proofs.Parts.{same_below}
 use Rattle.share_wiring.proofs.Grown.{gate_more}
 

@@ -6,6 +6,7 @@ use Rattle.std.proofs.lemmas.Bool.{cases_lt, and_parts, and_from, lt-ltb, ltb-tr
 use Rattle.agm_net.specs.Plain.{bit_names, is_input}
 use Rattle.agm_net.specs.Writable.{IsWritable}
 use Rattle.agm_net.specs.declared.port.Port.{Port}
+use Rattle.agm_net.proofs.Lists.{all_from, all_joined}
 use Rattle.share_wiring.specs.Gates.{gate_below}
 use Rattle.share_wiring.specs.Wiring.{Wiring, names, source_at}
 use Rattle.share_wiring.specs.Adds.{random_bits}
@@ -15,7 +16,6 @@ use Rattle.share_wiring.specs.declared.gate.Gate.TheVariants.{Zero, One, Same, N
 use Rattle.share_wiring.specs.declared.gate.Source.{Source}
 use Rattle.share_wiring.specs.declared.gate.Source.TheVariants.{Input, Equation, Register, Held}
 use Rattle.share_wiring.specs.declared.gate.Wire.{Wire}
-use Rattle.share_wiring.proofs.Lists.{all_joined, all_from}
 
 -- the wire that stands for a number past the last
 abbrev pub none : Wire

@@ -1,15 +1,11 @@
 pub mod Lists
 pub mod Recombine
-pub mod Unique
 pub mod Closing
-pub mod Loops
 pub mod Drivers
 pub mod Names
 pub mod Ports
 pub mod ShapePorts
-pub mod Solved
-pub mod Settled
-pub mod HasTrace
+pub mod Given
 pub mod Driven
 pub mod Distinct
 pub mod Inverted

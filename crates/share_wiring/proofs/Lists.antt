@@ -1,9 +1,9 @@
 -- Facts on lists.
-use Rattle.std.proofs.Common.{ne_eqb, eq-eqb, ◌≡◌, ◌<◌, ◌≤◌, ◌+◌, ◌++◌, ℕ, zero, suc, Bool, true, false, ◌==◌, List, [], ◌∷◌, map, filter, cond, IsTrue, refl, ap, ap₂, ◌∙◌, subst, zero-add, arith, inl, inr, length, count_by, slice_get, Some, flat_map}
+use Rattle.std.proofs.Common.{ne_eqb, eq-eqb, ◌≡◌, ◌<◌, ◌≤◌, ◌+◌, ◌++◌, ℕ, zero, suc, Bool, true, false, ◌==◌, List, [], ◌∷◌, map, filter, IsTrue, refl, ap, ap₂, ◌∙◌, subst, zero-add, arith, inl, inr, length, count_by, flat_map}
 use Rattle.std.specs.List.{AllByRecursion, list_any, range_with_len}
-use Rattle.std.proofs.lemmas.Bool.{eqb-true, or_cases, or_parts, cases_Bool, cases_eq}
+use Rattle.std.proofs.lemmas.Bool.{eqb-true, or_cases, cases_Bool, cases_eq}
 use Rattle.std.proofs.lemmas.List.{map-append}
-use Rattle.std.proofs.lemmas.List.Sums.{sum_by-cons}
+use Rattle.agm_net.proofs.Lists.{count_yes, count_no}
 
 -- what holds of each, of each in the first of two lists
 pub all_front : {X : Type 0} (P : X → Type 0) (xs ys : List X) → AllByRecursion P (xs ++ ys) → AllByRecursion P xs
@@ -15,26 +15,10 @@ pub all_back : {X : Type 0} (P : X → Type 0) (xs ys : List X) → AllByRecursi
 all_back P [] ys h = h
 all_back P (x ∷ xs) ys h = all_back P xs ys h.1
 
--- and of each in both
-pub all_joined : {X : Type 0} (P : X → Type 0) (xs ys : List X) → AllByRecursion P xs → AllByRecursion P ys → AllByRecursion P (xs ++ ys)
-all_joined P [] ys h g = g
-all_joined P (x ∷ xs) ys h g = (h.0, all_joined P xs ys h.1 g)
-
--- what holds of each follows from what does
-pub all_from : {X : Type 0} (P Q : X → Type 0) → ((x : X) → P x → Q x) → (xs : List X) → AllByRecursion P xs → AllByRecursion Q xs
-all_from P Q f [] h = tt
-all_from P Q f (x ∷ xs) h = (f x h.0, all_from P Q f xs h.1)
-
 -- what holds of each follows from two things that do
 pub all_both : {X : Type 0} (P Q R : X → Type 0) → ((x : X) → P x → Q x → R x) → (xs : List X) → AllByRecursion P xs → AllByRecursion Q xs → AllByRecursion R xs
 all_both P Q R f [] h g = tt
 all_both P Q R f (x ∷ xs) h g = (f x h.0 g.0, all_both P Q R f xs h.1 g.1)
-
--- what holds of each holds of the one at a place
-pub all_of_one : {X : Type 0} (P : X → Type 0) (xs : List X) (n : ℕ) (x : X) → AllByRecursion P xs → slice_get xs n ≡ Some x → P x
-all_of_one P [] n x h at = absurd (cc)
-all_of_one P (y ∷ ys) zero x h at = let same : y ≡ x = cc in subst P same h.0
-all_of_one P (y ∷ ys) (suc n) x h at = all_of_one P ys n x h.1 at
 
 -- what holds of each item that numbers in a row give
 pub all_at : {X : Type 0} (P : X → Type 0) (f : ℕ → X) (a n : ℕ) → AllByRecursion P (map f (range_with_len a n)) → (i : ℕ) → i < n → P (f (a + i))
@@ -47,11 +31,6 @@ all_at P f a (suc n) h (suc i) lt =
 -- the same from 0 on
 pub all_below : {X : Type 0} (P : X → Type 0) (f : ℕ → X) (n : ℕ) → AllByRecursion P (map f (range_with_len 0 n)) → (i : ℕ) → i < n → P (f i)
 all_below P f n h i lt = subst (λ k. P (f k)) (zero-add i) (all_at P f 0 n h i lt)
-
--- lists of the same images
-pub map_same : {X Y : Type 0} (f g : X → Y) (xs : List X) → AllByRecursion (λ x. f x ≡ g x) xs → map f xs ≡ map g xs
-map_same f g [] h = refl
-map_same f g (x ∷ xs) h = let head : f x ≡ g x = h.0 in let tail = map_same f g xs h.1 in cc
 
 -- two functions that agree on a list agree on the items that pass a test
 pub flat_map_filtered : {X Y : Type 0} (f g : X → List Y) (test : X → Bool) (xs : List X) → AllByRecursion (λ x. f x ≡ g x) xs → flat_map f (filter test xs) ≡ flat_map g (filter test xs)
@@ -78,38 +57,6 @@ agree_at f g (x ∷ xs) same w some =
     let head : f x ≡ g x = cc in
     let tail : map f xs ≡ map g xs = cc in
     elim (or_cases (x == w) (list_any (λ b. b == w) xs) some) [ inl here ↦ let is : x ≡ w = eqb-true x w here in cc | inr later ↦ agree_at f g xs tail w later ]
-
--- counts of one item more
-pub count_yes : {X : Type 0} (test : X → Bool) (x : X) (xs : List X) → IsTrue (test x) → count_by test (x ∷ xs) ≡ 1 + count_by test xs
-count_yes test x xs h = sum_by-cons (λ y. cond (test y) 1 0) x xs ∙ ap (λ b. cond b 1 0 + count_by test xs) h
-
--- and of one that fails
-pub count_no : {X : Type 0} (test : X → Bool) (x : X) (xs : List X) → test x ≡ false → count_by test (x ∷ xs) ≡ count_by test xs
-count_no test x xs h = sum_by-cons (λ y. cond (test y) 1 0) x xs ∙ (ap (λ b. cond b 1 0 + count_by test xs) h ∙ zero-add (count_by test xs))
-
--- a count with one item more
-pub count_more : {X : Type 0} (test : X → Bool) (x : X) (xs : List X) → count_by test xs ≤ count_by test (x ∷ xs)
-count_more test x xs = let split = sum_by-cons (λ y. cond (test y) 1 0) x xs in omega arith
-
--- counts and tests of some item
-pub count_some : {X : Type 0} (test : X → Bool) (xs : List X) → IsTrue (list_any test xs) → 1 ≤ count_by test xs
-count_some test [] some = absurd (let no : false ≡ true = some in cc)
-count_some test (x ∷ xs) some =
-    elim (or_cases (test x) (list_any test xs) some) [
-      | inl here ↦ (let one = count_yes test x xs here in omega arith)
-      | inr there ↦ (let rest = count_some test xs there in let more = count_more test x xs in omega arith)
-    ]
-
--- no item passes, none is counted
-pub count_none : {X : Type 0} (test : X → Bool) (xs : List X) → list_any test xs ≡ false → count_by test xs ≡ 0
-count_none test [] none = refl
-count_none test (x ∷ xs) none =
-    let parts = or_parts (test x) (list_any test xs) none in count_no test x xs parts.0 ∙ count_none test xs parts.1
-
--- an item is counted, one passes
-pub some_counted : {X : Type 0} (test : X → Bool) (xs : List X) → 1 ≤ count_by test xs → IsTrue (list_any test xs)
-some_counted test xs more =
-    elim (cases_Bool (list_any test xs)) [ inl some ↦ some | inr none ↦ absurd (let zero_all = count_none test xs none in omega arith) ]
 
 -- a list that is as long as an empty one is empty
 pub no_items : {X Y : Type 0} (xs : List X) (ys : List Y) → length xs ≡ length ys → ys ≡ [] → xs ≡ []

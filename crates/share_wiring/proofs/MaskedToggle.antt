@@ -11,12 +11,13 @@ use Rattle.agm_net.specs.declared.port.Port.{Port}
 use Rattle.agm_net.specs.declared.port.Range.{Range}
 use Rattle.agm_net.specs.declared.port.Way.{Way}
 use Rattle.agm_net.specs.declared.port.Way.TheVariants.{Input, Output}
+use Rattle.agm_net.proofs.InOrder.{no_loop_in_order}
+use Rattle.agm_net.proofs.Lists.{all_of_one}
 use Rattle.share_wiring.specs.Recombine.{xor_rows, port_value}
 use Rattle.share_wiring.specs.Shape.{Shape, Header, header_of}
 use Rattle.share_wiring.specs.Schedule.{Drives, chosen, input_values, stream_at}
 use Rattle.share_wiring.specs.Worked.{one_wide, toggle, toggle_report, masked_toggle, toggle_streams, masked_power, masked_tape, masked_table}
-use Rattle.share_wiring.proofs.Lists.{all_of_one, row_once}
-use Rattle.share_wiring.proofs.Loops.{no_loop}
+use Rattle.share_wiring.proofs.Lists.{row_once}
 use Rattle.share_wiring.proofs.Decide.{each_passes, names_differ, they_are_fresh, trace_from, same_row, rows_same}
 
 -- the bits of a port are named as the port
@@ -77,7 +78,7 @@ pub has_shape : Shape toggle toggle_report masked_toggle
 has_shape = record { headers = with_digits (λ first second. map header_of masked_toggle.ports ≡ headers first second) refl; clock = refl }
 
 pub has_no_loop : HasNoLoop masked_toggle
-has_no_loop = no_loop masked_toggle (λ w. nat_lt w 28) (they_are_fresh (λ w. nat_lt w 28) masked_toggle.lines refl)
+has_no_loop = no_loop_in_order masked_toggle (λ w. nat_lt w 28) (they_are_fresh (λ w. nat_lt w 28) masked_toggle.lines refl)
 
 pub runs : IsTrace masked_toggle masked_power masked_tape masked_table
 runs = trace_from masked_toggle masked_power masked_tape masked_table refl

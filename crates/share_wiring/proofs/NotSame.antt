@@ -2,36 +2,37 @@
 use Rattle.std.proofs.Common.{◌≡◌, ◌≢◌, ◌<◌, ◌≤◌, ◌+◌, ◌==◌, ◌&&◌, ◌||◌, ◌++◌, ◌^◌, ℕ, zero, suc, Bool, true, false, not, cond, List, [], ◌∷◌, Some, map, filter, flat_map, reverse, length, count_by, is_none, IsTrue, slice_get, slice_index_or, bytes_eq, codes, refl, sym, ap, ap₂, subst, ◌∙◌, inl, inr, arith, eq-eqb, ne_eqb, zero-add}
 use Rattle.std.specs.List.{AllByRecursion, list_any, range_with_len}
 use Rattle.std.specs.Option.{option_map_or}
-use Rattle.std.proofs.lemmas.Bool.{cases_Bool, cases_eq, cases_lt, and_parts, both_ways, cond-true, cond-false, false_from_ne_true}
+use Rattle.std.proofs.lemmas.Bool.{eqb-true, cases_Bool, cases_eq, cases_lt, and_parts, both_ways, cond-true, cond-false, false_from_ne_true}
 use Rattle.std.proofs.lemmas.List.{length-map}
 use Rattle.std.proofs.lemmas.List.FromFn.{length-map-range_with_len, get_or-map-range_with_len}
 use Rattle.std.proofs.lemmas.List.Sums.{sum_by-append}
 use Rattle.std.proofs.lemmas.Slice.Eq.{bytes_eq-Decides}
-use Rattle.agm_net.specs.Formula.{xor, value, stands, reads_below}
-use Rattle.agm_net.specs.Plain.{Line, Stored, PlainNet, is_in, is_input, input_bits, clock_bits, data_ports, bit_names}
+use Rattle.agm_net.specs.Formula.{Formula, xor, value, stands, reads_below}
+use Rattle.agm_net.specs.Plain.{Line, Stored, PlainNet, is_in, is_input, input_bits, clock_bits, data_ports}
 use Rattle.agm_net.specs.Role.{share_name, state_name}
+use Rattle.agm_net.specs.Run.{Driver, d_input, d_clock, d_equation, d_register, HasDriver, driver}
 use Rattle.agm_net.specs.Trace.{Row, row_at, bit_at, Holds, IsTrace}
 use Rattle.agm_net.specs.Loop.{reads, IsChain, last_of, HasNoLoop}
 use Rattle.agm_net.specs.WellFormed.{Differ, WellFormed, is_clock_port}
 use Rattle.agm_net.specs.declared.mark.Mark.{Mark}
 use Rattle.agm_net.specs.declared.port.Way.TheVariants.{Input}
 use Rattle.agm_net.specs.declared.port.Port.{Port}
+use Rattle.agm_net.proofs.Formulas.{reads_are_below, same_value}
+use Rattle.agm_net.proofs.Lists.{all_found, all_from, all_of_one, all_places, count_some, found_of_all, map_same, place_of_any, get_image}
+use Rattle.agm_net.proofs.Wires.{lines_fit, ports_bits, registers_fit}
+use Rattle.agm_net.proofs.Driving.{driven_is_wire, is_driver}
 use Rattle.share_wiring.specs.Recombine.{xor_rows, recombined_rows, port_value, is_shared, masked_value}
 use Rattle.share_wiring.specs.Shape.{Shape, Header, header_of}
 use Rattle.share_wiring.specs.Schedule.{Drives, reading_cycle}
 use Rattle.share_wiring.specs.Same.{Same}
 use Rattle.share_wiring.specs.Inverted.{inverted_line, inverted_at, IsUnread, IsShareOf, IsDriven}
 use Rattle.share_wiring.specs.declared.report.Report.{Report}
-use Rattle.share_wiring.proofs.Lists.{all_from, all_both, all_of_one, agree_at, count_some, map_same}
-use Rattle.share_wiring.proofs.Drivers.{named_wires, lines_fit}
-use Rattle.share_wiring.proofs.Driven.{bit_within, filtered, get_mapped, same_on, way_is, within_mapped}
-use Rattle.share_wiring.proofs.HasTrace.{NoLine, all_found, all_places, clock_wire, data_wire, found_of_all, output_wire, outputs, registers_fit}
+use Rattle.share_wiring.proofs.Lists.{all_both, agree_at}
+use Rattle.share_wiring.proofs.Driven.{bit_within, filtered, same_on, way_is, within_mapped}
 use Rattle.share_wiring.proofs.Inverted.{inverted_value, inverted_well_formed, stands_same}
 use Rattle.share_wiring.proofs.Names.{names_apart}
 use Rattle.share_wiring.proofs.Ports.{bits_named}
 use Rattle.share_wiring.proofs.ShapePorts.{IsOneOf, HasPort, bit_count, data_port, one_at, port_bits, public_port, share_port, width}
-use Rattle.share_wiring.proofs.Solved.{reads_are_below}
-use Rattle.share_wiring.proofs.Unique.{same_value}
 
 -- ---- rows of which one differs recombine differently
 
@@ -138,10 +139,6 @@ flipped_hold n u bit bit' (l ∷ ls) is fits unread h =
     is l.0 fits.0.0 ∙ (ap (λ x. cond (l.0 == u) (not x) x) (h.0 ∙ sym same) ∙ sym (inverted_value bit' u l)) in
     (here, flipped_hold n u bit bit' ls is fits.1 unread.1 h.1)
 
-unmapped : (P : ℕ → Type 0) (rs : List Stored) → AllByRecursion P (map (λ r. r.q) rs) → AllByRecursion (λ r. P r.q) rs
-unmapped P [] h = tt
-unmapped P (r ∷ rs) h = (h.0, unmapped P rs h.1)
-
 module _ (net : PlainNet) (u : ℕ) (power : Row) (tape table : List Row) (well : WellFormed net) (unread : IsUnread net u) (line : IsTrue (list_any (λ l. l.0 == u) net.lines)) (trace : IsTrace net power tape table) where
   abbrev n : ℕ
   n = length net.wires
@@ -158,12 +155,19 @@ module _ (net : PlainNet) (u : ℕ) (power : Row) (tape table : List Row) (well 
   pub flipped_bit : (t w : ℕ) → t < length table → w < n → bit_at flipped t w ≡ flip u (bit_at table t) w
   flipped_bit t w lt below = ap (λ row. slice_index_or row w false) (flipped_row t lt) ∙ get_or-map-range_with_len (flip u (bit_at table t)) 0 n w w false below (zero-add w)
 
-  -- a wire without an equation stays
-  stays : (t w : ℕ) → t < length table → NoLine net w → bit_at flipped t w ≡ bit_at table t w
-  stays t w lt wire = flipped_bit t w lt wire.within ∙ flip_other u (bit_at table t) w (λ e. both_ways (list_any (λ l. l.0 == w) net.lines) wire.no_line (ap (λ k. list_any (λ l. l.0 == k) net.lines) e ∙ line))
+  -- u is driven by an equation
+  own_line : (f : Formula) × (driver net u ≡ d_equation f)
+  own_line =
+      let found = place_of_any (λ (l : Line). l.0 == u) net.lines line in
+      (found.1.1, is_driver net well (d_equation found.1.1) u (found.0, found.2 ∙ ap (λ v. Some (v, found.1.1)) (eqb-true found.1.0 u found.3)))
+
+  -- a wire that something else drives stays
+  stays : (t w : ℕ) (d : Driver) → t < length table → HasDriver net d w → ((f : Formula) → d ≢ d_equation f) → bit_at flipped t w ≡ bit_at table t w
+  stays t w d lt h other =
+      flipped_bit t w lt (driven_is_wire net well d w h) ∙ flip_other u (bit_at table t) w (λ e. other own_line.0 (sym (is_driver net well d w h) ∙ (ap (driver net) e ∙ own_line.1)))
 
   outputs_stay : (t : ℕ) → t < length table → AllByRecursion (λ r. bit_at flipped t r.q ≡ bit_at table t r.q) net.registers
-  outputs_stay t lt = unmapped (λ w. bit_at flipped t w ≡ bit_at table t w) net.registers (all_found (λ w. bit_at flipped t w ≡ bit_at table t w) (outputs net) (λ w found. stays t w lt (output_wire net well w found)))
+  outputs_stay t lt = all_places (λ (r : Stored). bit_at flipped t r.q ≡ bit_at table t r.q) net.registers (λ n r at. stays t r.q (d_register n r.next) lt (r, at, refl, refl) (λ f e. cc))
 
   pub flipped_trace : IsTrace (inverted_at u net) power tape flipped
   flipped_trace = record {
@@ -174,10 +178,10 @@ module _ (net : PlainNet) (u : ℕ) (power : Row) (tape table : List Row) (well 
         flipped_hold n u (bit_at table t) (bit_at flipped t) net.lines (λ w below. flipped_bit t w within below) (lines_fit net well) unread.0 (trace.equations_hold t within);
     inputs_given = λ t lt.
         let within : t < length table = omega (arith, count, lt) in
-        same_on (bit_at flipped t) (bit_at table t) (input_bits net) (λ w found. stays t w within (data_wire net well w found)) ∙ trace.inputs_given t within;
+        map_same (bit_at flipped t) (bit_at table t) (input_bits net) (all_places (λ w. bit_at flipped t w ≡ bit_at table t w) (input_bits net) (λ n w at. stays t w (d_input n) within at (λ f e. cc))) ∙ trace.inputs_given t within;
     clock_is_low = λ t lt.
         let within : t < length table = omega (arith, count, lt) in
-        all_found (λ w. bit_at flipped t w ≡ false) (clock_bits net) (λ w found. stays t w within (clock_wire net well w found) ∙ found_of_all (λ v. bit_at table t v ≡ false) (clock_bits net) (trace.clock_is_low t within) w found);
+        all_found (λ w. bit_at flipped t w ≡ false) (clock_bits net) (λ w found. stays t w d_clock within found (λ f e. cc) ∙ found_of_all (λ v. bit_at table t v ≡ false) (clock_bits net) (trace.clock_is_low t within) w found);
     power_given = λ some. map_same (λ (r : Stored). bit_at flipped 0 r.q) (λ r. bit_at table 0 r.q) net.registers (outputs_stay 0 (omega (arith, count, some))) ∙ trace.power_given (omega (arith, count, some));
     registers_step = λ t lt.
         let next : t + 1 < length table = omega (arith, count, lt) in
@@ -239,7 +243,7 @@ other_named x y name (p ∷ ps) h =
 same_number : (ports : List Port) (a b : ℕ) (p q : Port) → Differ (map (λ r. r.name) ports) → slice_get ports a ≡ Some p → slice_get ports b ≡ Some q → p.name ≡ q.name → a ≡ b
 same_number ports a b p q differ at there e =
     let name : Port → List ℕ = λ r. r.name in
-    let alike = get_mapped name ports a p at ∙ (ap (λ x. Some x) e ∙ sym (get_mapped name ports b q there)) in
+    let alike = get_image name ports a p at ∙ (ap (λ x. Some x) e ∙ sym (get_image name ports b q there)) in
     elim (cases_lt a b) [
       | inl less ↦ absurd (differ a b less (within_mapped name ports b q there) alike)
       | inr most ↦ elim (cases_eq a b) [
@@ -273,7 +277,7 @@ module _ (original : PlainNet) (marks : List Mark) (report : Report) (net : Plai
   wrong_has_no_loop = still_no_loop u net same.no_loop
 
   ports_below : AllByRecursion (λ r. AllByRecursion (λ w. w < length net.wires) r.bits) net.ports
-  ports_below = all_places (λ r. AllByRecursion (λ w. w < length net.wires) r.bits) net.ports (λ k r at. named_wires net.wires r.bits (bit_names r.name r.range) (well.ports_right.bits_named k r at))
+  ports_below = ports_bits net well
 
   -- the wire is no input's
   input_apart : (h : Header) → h.way ≡ Input → HasPort net h → h.name ≢ q.name

@@ -5,9 +5,9 @@ use Rattle.std.proofs.lemmas.Fmt.{decimal_injective}
 use Rattle.std.proofs.lemmas.Bool.{cases_Bool}
 use Rattle.agm_net.specs.Writable.{is_graphic, IsWritable}
 use Rattle.agm_net.specs.Label.{IsPublic, CountsAsShare, public_name, inner_share_name, gadget_name}
+use Rattle.agm_net.proofs.Lists.{all_joined}
 use Rattle.share_wiring.specs.Own.{own_name}
 use Rattle.share_wiring.specs.Built.{LeavesFree, IsBegun, IsInnerName}
-use Rattle.share_wiring.proofs.Lists.{all_joined}
 use Rattle.share_wiring.proofs.Digits.{decimal_some, decimal_graphic, cut_number}
 
 -- an own name by a test on the number of shares

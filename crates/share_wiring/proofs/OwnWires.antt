@@ -8,6 +8,7 @@ use Rattle.std.proofs.lemmas.Bool.{cases_lt, and_from, lt-ltb}
 use Rattle.std.proofs.Math.Seq.{get_or-append_seam}
 use Rattle.agm_net.specs.Label.{IsPublic, CountsAsShare}
 use Rattle.agm_net.specs.Writable.{IsWritable}
+use Rattle.agm_net.proofs.Lists.{all_from, all_joined}
 use Rattle.share_wiring.specs.Wiring.{Wiring, IsRun, Keeps, source_at, name_at, names, share, MayBeShare, IsSharing}
 use Rattle.share_wiring.specs.Own.{own_name, own_wires, source_of, step_registers, upto}
 use Rattle.share_wiring.specs.Adds.{AddsRegisters}
@@ -16,7 +17,6 @@ use Rattle.share_wiring.specs.declared.gate.Source.{Source}
 use Rattle.share_wiring.specs.declared.gate.Wire.{Wire}
 use Rattle.share_wiring.specs.declared.gate.Step.{Step}
 use Rattle.share_wiring.specs.declared.gate.Step.TheVariants as step
-use Rattle.share_wiring.proofs.Lists.{all_joined, all_from}
 use Rattle.share_wiring.proofs.Grown.{Fit, distinct_joined, none, built_wires}
 use Rattle.share_wiring.proofs.Runs.{run_front, run_back, name_back, registers_more}
 use Rattle.share_wiring.proofs.OwnNames.{own_inner, own_apart, own_free, own_begun, own_writable, own_is_share}

@@ -9,11 +9,11 @@ use Rattle.std.proofs.lemmas.Bool.{cases_Bool, cases_eq}
 use Rattle.std.proofs.lemmas.Option.{slice_get_within}
 use Rattle.agm_net.specs.Plain.{bit_names}
 use Rattle.agm_net.specs.declared.port.Port.{Port}
+use Rattle.agm_net.proofs.Lists.{all_joined, count_more, count_yes}
 use Rattle.share_wiring.specs.Wiring.{Wiring, names}
 use Rattle.share_wiring.specs.Adds.{random_bits}
 use Rattle.share_wiring.specs.Built.{HasItsBits, uses, IsBuilt}
 use Rattle.share_wiring.specs.declared.gate.Wire.{Wire}
-use Rattle.share_wiring.proofs.Lists.{all_joined, count_yes, count_more}
 
 -- one number more
 pub range_more : (a n : ℕ) → range_with_len a (n + 1) ≡ range_with_len a n ++ (a + n) ∷ []

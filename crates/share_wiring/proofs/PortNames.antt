@@ -12,9 +12,9 @@ use Rattle.agm_net.specs.Writable.{is_graphic, IsWritable}
 use Rattle.agm_net.specs.Label.{IsUserName, public_name, inner_share_name}
 use Rattle.agm_net.specs.declared.port.Range.{Range}
 use Rattle.agm_net.proofs.Named.{length-names, name-at}
+use Rattle.agm_net.proofs.Lists.{all_joined}
 use Rattle.share_wiring.specs.Own.{upto}
 use Rattle.share_wiring.specs.Built.{AreDistinct, LeavesFree, IsBegun, IsPortName, IsSmallRange}
-use Rattle.share_wiring.proofs.Lists.{all_joined}
 use Rattle.share_wiring.proofs.Digits.{decimal_graphic, cut_number_above}
 use Rattle.share_wiring.proofs.OwnWires.{distinct_upto, all_upto}
 

@@ -11,6 +11,7 @@ use Rattle.agm_net.specs.declared.port.Port.{Port}
 use Rattle.agm_net.specs.declared.port.Range.{Range}
 use Rattle.agm_net.specs.declared.port.Way.{Way}
 use Rattle.agm_net.specs.declared.port.Way.TheVariants.{Input as In, Output}
+use Rattle.agm_net.proofs.Lists.{all_from, count_no, count_yes}
 use Rattle.share_wiring.specs.Wiring.{Wiring, IsRun, Keeps, names, source_at}
 use Rattle.share_wiring.specs.Own.{bit_wires, input_wires, copy_wires}
 use Rattle.share_wiring.specs.Adds.{random_bits, AddsRegisters}
@@ -19,7 +20,7 @@ use Rattle.share_wiring.specs.declared.gate.Source.{Source}
 use Rattle.share_wiring.specs.declared.gate.Source.TheVariants.{Input, Equation}
 use Rattle.share_wiring.specs.declared.gate.Gate.TheVariants.{Same}
 use Rattle.share_wiring.specs.declared.gate.Wire.{Wire}
-use Rattle.share_wiring.proofs.Lists.{all_from, count_yes, count_no, row_before, row_once}
+use Rattle.share_wiring.proofs.Lists.{row_before, row_once}
 use Rattle.share_wiring.proofs.Grown.{Fit, none, built_more, named_more, names_append, uses_more, source_front, source_back}
 use Rattle.share_wiring.proofs.Runs.{registers_more, run_front, run_back}
 use Rattle.share_wiring.proofs.OwnWires.{length-upto, get-upto, map-upto, all_upto}

@@ -6,8 +6,9 @@ use Rattle.std.proofs.lemmas.Slice.Eq.{bytes_eq-Decides}
 use Rattle.agm_net.specs.Formula.{xor}
 use Rattle.agm_net.specs.WellFormed.{Differ}
 use Rattle.agm_net.specs.declared.port.Port.{Port}
+use Rattle.agm_net.proofs.Lists.{all_from}
 use Rattle.share_wiring.specs.Recombine.{xor_below, xor_rows, recombined_rows}
-use Rattle.share_wiring.proofs.Lists.{all_from, all_both}
+use Rattle.share_wiring.proofs.Lists.{all_both}
 
 -- the bits of those ports that have a name
 abbrev pub bits_named : (ℕ → Bool) → List ℕ → List Port → List Bool

@@ -8,10 +8,10 @@ use Rattle.agm_net.specs.Role.{share_name, state_name}
 use Rattle.agm_net.specs.WellFormed.{WellFormed}
 use Rattle.agm_net.specs.declared.port.Port.{Port}
 use Rattle.agm_net.specs.declared.port.Range.{Range}
+use Rattle.agm_net.proofs.Lists.{all_of_one}
 use Rattle.share_wiring.specs.Recombine.{port_value, is_shared}
 use Rattle.share_wiring.specs.Shape.{Shape, Header, header_of, indices, input_of_width, one_input, masked_headers}
 use Rattle.share_wiring.specs.declared.report.Report.{Report}
-use Rattle.share_wiring.proofs.Lists.{all_of_one}
 use Rattle.share_wiring.proofs.Ports.{OwnBits, own_bits}
 
 -- one of some items

@@ -10,6 +10,7 @@ use Rattle.agm_net.specs.PlainForm.{IsWire, IsOneOperator, IsNextOf, RangeFits, 
 use Rattle.agm_net.specs.Small.{IsCell, IsSmallNet}
 use Rattle.agm_net.specs.declared.port.Port.{Port}
 use Rattle.agm_net.specs.declared.port.Range.{Range}
+use Rattle.agm_net.proofs.Lists.{all_from, all_of_one}
 use Rattle.share_wiring.specs.Built.{AreDistinct, HasItsBits, IsAmong, IsBuilt, IsInnerName, IsInnerOrBit, IsMadePort, IsSmallRange, bits_names}
 use Rattle.share_wiring.specs.Cells.{IsCellSource, AreCells}
 use Rattle.share_wiring.specs.Gates.{gate_formula}
@@ -20,7 +21,6 @@ use Rattle.share_wiring.specs.declared.gate.Source.{Source}
 use Rattle.share_wiring.specs.declared.gate.Source.TheVariants.{Input, Equation, Register, Held}
 use Rattle.share_wiring.proofs.FinishedNet.{all_lines, all_stored}
 use Rattle.share_wiring.proofs.Grown.{sources_at}
-use Rattle.share_wiring.proofs.Lists.{all_from, all_of_one}
 use Rattle.share_wiring.proofs.PortNames.{IsOuter, outer, outer_select, each_bit}
 use Rattle.share_wiring.proofs.PortWires.{among_all, among_cases, some_ports}
 

@@ -9,6 +9,8 @@ use Rattle.agm_net.specs.WellFormed.{WellFormed, drivers, is_clock_port}
 use Rattle.agm_net.specs.declared.port.Port.{Port}
 use Rattle.agm_net.specs.declared.port.Way.{Way}
 use Rattle.agm_net.specs.declared.port.Way.TheVariants.{Input, Output}
+use Rattle.agm_net.proofs.InOrder.{no_loop_in_order}
+use Rattle.agm_net.proofs.Lists.{all_of_one}
 use Rattle.share_wiring.specs.Recombine.{xor_rows, port_value, masked_value}
 use Rattle.share_wiring.specs.Shape.{Shape, Header, header_of}
 use Rattle.share_wiring.specs.Schedule.{Stream, stream_at, input_values, Drives}
@@ -16,8 +18,7 @@ use Rattle.share_wiring.specs.Same.{Same}
 use Rattle.share_wiring.specs.Inverted.{IsUnread, IsShareOf, IsDriven}
 use Rattle.share_wiring.specs.Worked.{port, bits}
 use Rattle.share_wiring.specs.WorkedWire.{through, through_marks, through_report, masked_through}
-use Rattle.share_wiring.proofs.Lists.{all_of_one, row_once}
-use Rattle.share_wiring.proofs.Loops.{no_loop}
+use Rattle.share_wiring.proofs.Lists.{row_once}
 use Rattle.share_wiring.proofs.Decide.{each_passes, names_differ, they_are_fresh, trace_from}
 use Rattle.share_wiring.proofs.MaskedToggle.{share_port, with_digits}
 
@@ -63,7 +64,7 @@ has_shape : Shape through through_report masked_through
 has_shape = record { headers = with_digits (λ first second. map header_of masked_through.ports ≡ headers first second) refl; clock = refl }
 
 has_no_loop : HasNoLoop masked_through
-has_no_loop = no_loop masked_through (λ w. nat_lt w 4) (they_are_fresh (λ w. nat_lt w 4) masked_through.lines refl)
+has_no_loop = no_loop_in_order masked_through (λ w. nat_lt w 4) (they_are_fresh (λ w. nat_lt w 4) masked_through.lines refl)
 
 -- what the ports of two shares recombine to
 abbrev sum : List ℕ → List ℕ → List ℕ → (ℕ → Bool) → Row

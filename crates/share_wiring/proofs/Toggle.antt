@@ -9,13 +9,14 @@ use Rattle.agm_net.specs.WellFormed.{WellFormed, drivers, is_clock_port}
 use Rattle.agm_net.specs.declared.mark.Mark.TheVariants.{Clock}
 use Rattle.agm_net.specs.declared.port.Way.TheVariants.{Input, Output}
 use Rattle.agm_net.specs.declared.port.Port.{Port}
+use Rattle.agm_net.proofs.InOrder.{no_loop_in_order}
+use Rattle.agm_net.proofs.Lists.{all_of_one}
 use Rattle.share_wiring.specs.ReportOf.{IsShared, shared, public, none, ReportOf}
 use Rattle.share_wiring.specs.Same.{TellsSecrets}
 use Rattle.share_wiring.specs.Worked.{port, toggle, toggle_marks, toggle_report}
 use Rattle.share_wiring.specs.declared.report.Mode.TheVariants.{Naive}
 use Rattle.share_wiring.specs.declared.report.Balance.TheVariants.{Pipe}
-use Rattle.share_wiring.proofs.Lists.{all_of_one, row_once}
-use Rattle.share_wiring.proofs.Loops.{no_loop}
+use Rattle.share_wiring.proofs.Lists.{row_once}
 use Rattle.share_wiring.proofs.Decide.{each_passes, names_differ, they_are_fresh}
 
 -- the bits of a port are named as the port
@@ -36,7 +37,7 @@ is_net = record {
 }
 
 pub has_no_loop : HasNoLoop toggle
-has_no_loop = no_loop toggle (λ w. nat_lt w 4) (they_are_fresh (λ w. nat_lt w 4) toggle.lines refl)
+has_no_loop = no_loop_in_order toggle (λ w. nat_lt w 4) (they_are_fresh (λ w. nat_lt w 4) toggle.lines refl)
 
 -- ---- secrets
 

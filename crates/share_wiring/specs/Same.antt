@@ -20,6 +20,8 @@ pub record TellsSecrets (net : PlainNet) (marks : List Mark) (secrets : List Boo
 -- The masked net has the ports of one, has no loop, and computes the original: whatever its power-up contents and its tape, random
 -- bits among it, in every trace that a stimulus drives, each output read in its cycle is the one that the original's trace has in
 -- that step, from the stream's initial state and with the stream's inputs.
+-- It is never stated without `ReportOf` of the same report. Alone it holds where there is nothing to compare: of a net that nothing
+-- drives, as by a report without streams, and of an original with a loop, which may have no trace.
 pub record Same (original : PlainNet) (marks : List Mark) (report : Report) (net : PlainNet) : Type 0 where
   pub shape : Shape original report net
   pub no_loop : HasNoLoop net

@@ -12,12 +12,6 @@ ghost use Rattle.share_wiring.specs.Schedule.{Stream, Drives};
 ghost use Rattle.share_wiring.specs.Shape.{Shape};
 ghost use Rattle.share_wiring.specs.declared.report.Report.{Report};
 
-/// A law: a net without a loop has a trace for each power-up contents and each tape of the right width.
-pub fn has_trace()
-    ensures { (net : PlainNet) (power : Row) (tape : List Row) → WellFormed net → HasNoLoop net → length power ≡ length net.registers →
-        AllByRecursion (λ row. length row ≡ length (input_bits net)) tape → (table : List Row) × IsTrace net power tape table }
-{}
-
 /// A law: every stimulus drives each net without a loop that has the ports of a masked net, whatever its power-up contents, where the
 /// original has no registers and all its ports but the clock's are shared.
 pub fn is_driven()

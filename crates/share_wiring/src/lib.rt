@@ -15,7 +15,7 @@ mod wrong;
 
 pub use builder::Builder;
 pub use gate::{Gate, Source, Wire};
-pub use laws::{has_trace, is_driven};
+pub use laws::is_driven;
 pub use masked::Masked;
 pub use renumbered::renumbered_is_same;
 pub use report::{Balance, Mode, Report};

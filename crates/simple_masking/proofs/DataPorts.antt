@@ -7,7 +7,8 @@ use Rattle.std.proofs.lemmas.List.Folds.{list_any-append}
 use Rattle.agm_net.specs.Plain.{PlainNet, data_ports, is_input, ports_but}
 use Rattle.agm_net.specs.WellFormed.{WellFormed, is_clock_port}
 use Rattle.agm_net.specs.declared.port.Port.{Port}
-use Rattle.share_wiring.proofs.Drivers.{driver_cases, inputs_of, is_input_of, is_bit_in}
+use Rattle.agm_net.proofs.Wires.{inputs_of, is_bit_in, is_input_of}
+use Rattle.share_wiring.proofs.Drivers.{driver_cases}
 use Rattle.simple_masking.specs.Shared.{IsLikeSimple, data_from, is_clock, is_input_bit}
 use Rattle.simple_masking.proofs.FirstWires.{StandFrom, stand}
 

@@ -4,11 +4,11 @@ use Rattle.std.specs.List.{AllByRecursion}
 use Rattle.agm_net.specs.Role.{share_name}
 use Rattle.agm_net.specs.declared.port.Port.{Port}
 use Rattle.agm_net.specs.declared.port.Way.TheVariants.{Input}
+use Rattle.agm_net.proofs.Lists.{all_from, all_joined}
 use Rattle.share_wiring.specs.Adds.{Extends}
 use Rattle.share_wiring.specs.Built.{IsNew}
 use Rattle.share_wiring.specs.Wiring.{Wiring, IsSharing, MayBeShare, share}
 use Rattle.share_wiring.specs.declared.sharing.Sharing.{Sharing}
-use Rattle.share_wiring.proofs.Lists.{all_joined, all_from}
 use Rattle.simple_masking.specs.Shared.{share_ports, IsOneOrRandom, HasNoShare, HasNoShares, shares_of, HasSharing, bit_of, ArePorts, first_ports}
 use Rattle.share_wiring.proofs.Runs.{extends_trans}
 use Rattle.simple_masking.proofs.SharePorts.{one_each, other_is_new, new_joined}

@@ -10,12 +10,12 @@ use Rattle.agm_net.specs.declared.port.Port.{Port}
 use Rattle.share_wiring.specs.Adds.{Extends, AddsFact, recombined}
 use Rattle.share_wiring.specs.Wiring.{Wiring, IsRun, MayBeShare, share, net_of}
 use Rattle.share_wiring.specs.declared.sharing.Sharing.{Sharing}
-use Rattle.share_wiring.proofs.Lists.{all_from}
-use Rattle.share_wiring.proofs.Unique.{same_value}
 use Rattle.simple_masking.specs.Shared.{shares_of, worth, Solves, HasSharing, bit_of, is_input_bit, Stands, HasInputs, HasPorts, IsLikeSimple, IsMaskOf, Follows, first_ports}
 use Rattle.simple_masking.proofs.Entering.{Is, are_changed}
 use Rattle.simple_masking.proofs.PortFacts.{one_bits, all_filter}
 use Rattle.agm_net.specs.Small.{IsSmallNet}
+use Rattle.agm_net.proofs.Formulas.{same_value}
+use Rattle.agm_net.proofs.Lists.{all_from}
 
 -- each port's bit is one of all
 bits_within : (ps : List Port) → AllByRecursion (λ p. p.bits ≡ bit_of p ∷ []) ps → AllByRecursion (λ p. IsTrue (list_any (λ b. b == bit_of p) (flat_map (λ q. q.bits) ps))) ps

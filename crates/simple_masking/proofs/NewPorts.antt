@@ -7,11 +7,11 @@ use Rattle.agm_net.specs.Role.{share_name}
 use Rattle.agm_net.specs.Writable.{is_graphic, IsWritable}
 use Rattle.agm_net.specs.declared.port.Port.{Port}
 use Rattle.agm_net.specs.declared.port.Range.{Range}
+use Rattle.agm_net.proofs.Lists.{all_from, all_joined}
 use Rattle.share_wiring.specs.Wiring.{Wiring, MayBeShare, names, name_at}
 use Rattle.share_wiring.specs.Own.{input_wires}
 use Rattle.share_wiring.specs.Built.{IsBuilt, IsNew, IsNewPort, IsInnerName, IsInnerOrBit, IsAmong, bits_names}
 use Rattle.share_wiring.specs.declared.gate.Wire.{Wire}
-use Rattle.share_wiring.proofs.Lists.{all_from, all_joined}
 use Rattle.share_wiring.proofs.Digits.{decimal_graphic}
 use Rattle.share_wiring.proofs.PortWires.{among_all, among_cases}
 use Rattle.share_wiring.proofs.Runs.{name_back}

@@ -6,11 +6,11 @@ use Rattle.std.proofs.lemmas.List.FromFn.{length-map-range_with_len}
 use Rattle.agm_net.specs.Role.{share_name}
 use Rattle.agm_net.specs.declared.port.Port.{Port}
 use Rattle.agm_net.specs.declared.port.Way.TheVariants.{Output}
+use Rattle.agm_net.proofs.Lists.{all_joined}
 use Rattle.share_wiring.specs.Adds.{Extends, AddsFact}
 use Rattle.share_wiring.specs.Built.{IsNew}
 use Rattle.share_wiring.specs.Wiring.{Wiring, share}
 use Rattle.share_wiring.specs.declared.sharing.Sharing.{Sharing}
-use Rattle.share_wiring.proofs.Lists.{all_joined}
 use Rattle.simple_masking.specs.Shared.{one_bit, share_ports, IsOneOrRandom, HasNoShare, HasNoShares, shares_of, bit_of, ArePorts, HasInputs, HasPorts, Stands}
 use Rattle.share_wiring.proofs.Runs.{extends_refl, extends_trans}
 use Rattle.simple_masking.proofs.SharePorts.{new_joined}

@@ -12,7 +12,7 @@ use Rattle.agm_net.specs.Writable.{IsWritable}
 use Rattle.agm_net.specs.declared.port.Port.{Port}
 use Rattle.agm_net.specs.declared.port.Way.{Way}
 use Rattle.agm_net.specs.declared.port.Way.TheVariants.{Input, Output}
-use Rattle.share_wiring.proofs.Lists.{all_of_one, all_from}
+use Rattle.agm_net.proofs.Lists.{all_from, all_of_one}
 use Rattle.simple_masking.proofs.FirstWires.{StandFrom, stand}
 use Rattle.simple_masking.specs.ServedNet.{is_data_input}
 use Rattle.simple_masking.specs.Shared.{bit_of, data_from, is_clock, IsLikeSimple}

@@ -7,10 +7,10 @@ use Rattle.std.proofs.lemmas.List.FromFn.{length-map-range_with_len}
 use Rattle.agm_net.specs.Role.{share_name}
 use Rattle.agm_net.specs.declared.port.Port.{Port}
 use Rattle.agm_net.specs.declared.port.Way.TheVariants.{Input, Output}
+use Rattle.agm_net.proofs.Lists.{all_joined}
 use Rattle.share_wiring.specs.Adds.{Extends, AddsFact}
 use Rattle.share_wiring.specs.Built.{IsNew}
 use Rattle.share_wiring.specs.Wiring.{Wiring, MayBeShare, share}
-use Rattle.share_wiring.proofs.Lists.{all_joined}
 use Rattle.share_wiring.proofs.Runs.{extends_trans}
 use Rattle.simple_masking.specs.Shared.{one_bit, share_ports, IsOneOrRandom, HasNoShare, Entered, Left}
 use Rattle.simple_masking.proofs.SharePorts.{share_ports_more, insert_middle, one_each, later_is_new, new_joined, middle_new, middle_all}

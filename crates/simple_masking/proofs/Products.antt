@@ -6,7 +6,7 @@ use Rattle.std.proofs.lemmas.List.FromFn.{length-range_with_len}
 use Rattle.agm_net.proofs.Named.{length-names}
 use Rattle.agm_net.specs.Loop.{HasNoLoop}
 use Rattle.agm_net.specs.Plain.{PlainNet, Line, data_ports, line_of, bit_names}
-use Rattle.agm_net.specs.Small.{InOrder, IsSmallNet}
+use Rattle.agm_net.specs.Small.{InOrder, IsSmallNet, IsFresh}
 use Rattle.simple_masking.specs.Simple.{IsSimple, with_lines}
 use Rattle.agm_net.specs.Trace.{Row, IsTrace, Holds, bit_at}
 use Rattle.agm_net.specs.WellFormed.{WellFormed}
@@ -20,14 +20,14 @@ use Rattle.share_wiring.specs.Own.{input_wires}
 use Rattle.share_wiring.specs.declared.gate.Source.TheVariants.{Input}
 use Rattle.share_wiring.specs.declared.gate.Wire.{Wire}
 use Rattle.share_wiring.specs.declared.sharing.Sharing.{Sharing}
-use Rattle.share_wiring.proofs.Drivers.{fresh_lines, lines_fit}
-use Rattle.share_wiring.proofs.Lists.{all_from}
-use Rattle.share_wiring.proofs.Loops.{IsFresh}
+use Rattle.share_wiring.proofs.Drivers.{fresh_lines}
 use Rattle.simple_masking.specs.Shared.{shares_of, is_input_bit, Stands, Follows, HasPorts, IsMaskOf, first_ports}
 use Rattle.simple_masking.proofs.DataPorts.{data_input}
 use Rattle.simple_masking.proofs.Entering.{are_changed}
 use Rattle.simple_masking.proofs.NewPorts.{Begins, bits_begin}
 use Rattle.agm_net.specs.Formula.{Formula, f_zero, f_one, f_wire, f_not, f_and, f_or, f_xor, f_mux, reads_below}
+use Rattle.agm_net.proofs.Lists.{all_from}
+use Rattle.agm_net.proofs.Wires.{lines_fit}
 use Rattle.share_wiring.specs.Adds.{AddsFact, recombined, Delays, random_bits}
 use Rattle.share_wiring.specs.Gates.{gate_of}
 use Rattle.share_wiring.specs.Wiring.{Wiring, IsRun, names, net_of, share}

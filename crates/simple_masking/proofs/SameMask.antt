@@ -12,6 +12,8 @@ use Rattle.agm_net.specs.declared.mark.Mark.{Mark}
 use Rattle.agm_net.specs.declared.port.Port.{Port}
 use Rattle.agm_net.specs.declared.port.Way.{Way}
 use Rattle.agm_net.specs.declared.port.Way.TheVariants.{Output}
+use Rattle.agm_net.proofs.InOrder.{one_solution}
+use Rattle.agm_net.proofs.Wires.{is_bit_in}
 use Rattle.share_wiring.specs.Adds.{recombined}
 use Rattle.share_wiring.specs.Recombine.{xor_below, recombined_rows, port_value, is_shared, masked_value}
 use Rattle.share_wiring.specs.Same.{Same}
@@ -19,12 +21,11 @@ use Rattle.share_wiring.specs.Schedule.{input_values}
 use Rattle.share_wiring.specs.Shape.{Shape, header_of, indices, input_of_width, one_input, masked_headers}
 use Rattle.share_wiring.specs.Wiring.{share}
 use Rattle.share_wiring.specs.declared.report.Report.{Report}
-use Rattle.share_wiring.proofs.Drivers.{is_bit_in, line_agree}
+use Rattle.share_wiring.proofs.Drivers.{line_agree}
 use Rattle.simple_masking.proofs.FirstWires.{StandFrom, stand}
 use Rattle.share_wiring.proofs.Lists.{all_front, all_back, all_below, all_both, agree_at, flat_map_filtered, flat_map_nothing, map_flat_map}
 use Rattle.share_wiring.proofs.Ports.{OwnBits, own_bits, each_named, rows_recombine}
 use Rattle.simple_masking.proofs.DataPorts.{data_all, data_cases, data_input, data_one, output_apart}
-use Rattle.share_wiring.proofs.Unique.{one_solution}
 use Rattle.simple_masking.specs.Shared.{one_bit, share_ports, bit_of, is_input_bit, ArePorts, IsLikeSimple, IsMaskOf, Follows, first_ports, report_with}
 use Rattle.simple_masking.proofs.PortFacts.{one_bits, port_facts}
 

@@ -4,7 +4,7 @@ use Rattle.std.specs.List.{AllByRecursion, list_any, zip, enumerate_from}
 use Rattle.std.proofs.lemmas.Bool.{eqb-true, or_cases, or_left, or_right, and_from, both_ways, cases_Bool}
 use Rattle.agm_net.specs.Formula.{Formula, f_wire, f_not, f_xor, stands}
 use Rattle.agm_net.specs.Plain.{data_ports, Line, PlainNet, is_input, is_in}
-use Rattle.agm_net.specs.Loop.{reads}
+use Rattle.agm_net.specs.Loop.{reads, reads_in}
 use Rattle.agm_net.specs.Secret.{is_secure, depends, IsSecret}
 use Rattle.agm_net.specs.WellFormed.{WellFormed}
 use Rattle.agm_net.specs.Small.{InOrder}
@@ -13,12 +13,12 @@ use Rattle.agm_net.specs.declared.mark.Mark.{Mark}
 use Rattle.agm_net.specs.declared.port.Way.{Way}
 use Rattle.agm_net.specs.declared.port.Way.TheVariants.{Input, Output}
 use Rattle.agm_net.specs.declared.port.Port.{Port}
+use Rattle.agm_net.proofs.InOrder.{line_reads}
+use Rattle.agm_net.proofs.Wires.{is_input_of}
 use Rattle.share_wiring.specs.ReportOf.{IsShared, SharedNames, none, shared, public, ReportOf}
 use Rattle.share_wiring.specs.declared.report.Mode.TheVariants.{Naive}
 use Rattle.share_wiring.specs.declared.report.Balance.TheVariants.{Pipe}
 use Rattle.share_wiring.proofs.Lists.{no_items}
-use Rattle.share_wiring.proofs.Drivers.{is_input_of}
-use Rattle.share_wiring.proofs.Loops.{line_reads, reads_in}
 use Rattle.simple_masking.specs.Shared.{data_from, is_clock, is_input_bit, report_with}
 use Rattle.simple_masking.proofs.DataPorts.{clock_is_input, clocked_is, data_are, data_cases, inputs_parts, is_apart}
 use Rattle.simple_masking.proofs.PortFacts.{port_facts}

@@ -24,8 +24,8 @@ use Rattle.agm_net.specs.declared.net.Net.{Net}
 use Rattle.agm_net.specs.declared.port.Port.{Port}
 use Rattle.agm_net.specs.declared.port.Way.{Way}
 use Rattle.agm_net.specs.declared.port.Way.TheVariants.{Input, Output}
-use Rattle.share_wiring.proofs.Drivers.{lines_fit}
-use Rattle.share_wiring.proofs.Lists.{all_from}
+use Rattle.agm_net.proofs.Lists.{all_from}
+use Rattle.agm_net.proofs.Wires.{lines_fit}
 use Rattle.share_wiring.specs.Gates.{gate_of}
 use Rattle.share_wiring.specs.declared.gate.Gate.{Gate}
 use Rattle.share_wiring.specs.declared.gate.Gate.TheVariants.{Zero, One, Same, Not, And, Or, Xor, Mux}

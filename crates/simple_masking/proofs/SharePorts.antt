@@ -6,8 +6,9 @@ use Rattle.std.proofs.Math.Seq.{take-append_seam, drop-append_seam}
 use Rattle.agm_net.specs.Role.{share_name}
 use Rattle.agm_net.specs.declared.port.Port.{Port}
 use Rattle.agm_net.specs.declared.port.Way.{Way}
+use Rattle.agm_net.proofs.Lists.{all_joined}
 use Rattle.share_wiring.specs.Built.{IsNew}
-use Rattle.share_wiring.proofs.Lists.{all_joined, all_front, all_back}
+use Rattle.share_wiring.proofs.Lists.{all_front, all_back}
 use Rattle.share_wiring.proofs.Names.{names_apart}
 use Rattle.simple_masking.specs.Shared.{one_bit, share_ports, IsOneOrRandom}
 

@@ -6,19 +6,17 @@ use Rattle.std.proofs.Math.Seq.{drop-cons, take-suc}
 use Rattle.std.proofs.lemmas.List.{map-append}
 use Rattle.agm_net.specs.Formula.{Formula, f_wire, f_not, f_xor, value, stands, reads_below}
 use Rattle.agm_net.specs.Plain.{Line, line_of}
-use Rattle.agm_net.specs.Small.{ReadsKnown}
+use Rattle.agm_net.specs.Small.{ReadsKnown, IsFresh}
 use Rattle.simple_masking.specs.Simple.{IsLinear}
 use Rattle.agm_net.specs.Trace.{Holds}
 use Rattle.agm_net.specs.declared.expr.Equation.{Equation}
+use Rattle.agm_net.proofs.Formulas.{reads_are_below, same_value}
+use Rattle.agm_net.proofs.Lists.{all_from, all_joined}
 use Rattle.share_wiring.specs.Adds.{Extends, Stays, AddsFact, recombined}
 use Rattle.share_wiring.specs.Gates.{gate_formula, gate_of}
 use Rattle.share_wiring.specs.Wiring.{Wiring, IsSharing, MayBeShare, share}
 use Rattle.share_wiring.specs.declared.gate.Wire.{Wire}
 use Rattle.share_wiring.specs.declared.sharing.Sharing.{Sharing}
-use Rattle.share_wiring.proofs.Lists.{all_joined, all_from}
-use Rattle.share_wiring.proofs.Loops.{IsFresh}
-use Rattle.share_wiring.proofs.Unique.{same_value}
-use Rattle.share_wiring.proofs.Solved.{reads_are_below}
 use Rattle.simple_masking.specs.Shared.{shares_of, worth, Solves, HasSharing}
 use Rattle.share_wiring.proofs.Runs.{extends_trans}
 use Rattle.share_wiring.specs.Cells.{AddsCells}

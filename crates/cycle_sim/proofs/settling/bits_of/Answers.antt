@@ -1,4 +1,4 @@
-use Rattle.std.proofs.Common.{◌≡◌, ◌++◌, ◌∷◌, [], ap, sym, ◌∙◌}
+use Rattle.std.proofs.Common.{◌++◌, ◌∷◌, [], ap, sym, ◌∙◌}
 use Rattle.cycle_sim.proofs.NodeValues.{bit_more}
 use Rattle.cycle_sim.proofs.settling.bits_of.Goals as goal
 

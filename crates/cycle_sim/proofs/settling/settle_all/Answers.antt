@@ -1,8 +1,6 @@
-use Rattle.std.proofs.Common.{◌≡◌, ◌<◌, ap, sym, ◌∙◌, subst, length, get_or, slice_get, Some, IsTrue, arith}
+use Rattle.std.proofs.Common.{ap, ◌∙◌, length, get_or, arith}
 use Rattle.std.proofs.lemmas.Option.{slice_get-get_or, slice_get_within, get_or_from_slice_get}
-use Rattle.logic_graph.specs.declared.nodes.Node.{Node}
 use Rattle.logic_graph.specs.declared.nodes.Node.TheVariants.{Zero}
-use Rattle.logic_graph.specs.Nodes.{reads_before}
 use Rattle.logic_graph.specs.Settled.{bit_of, node_value}
 use Rattle.cycle_sim.proofs.NodeValues.{reads_later, value_more}
 use Rattle.cycle_sim.proofs.settling.settle_all.Goals as goal

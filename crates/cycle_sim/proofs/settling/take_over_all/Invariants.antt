@@ -1,4 +1,4 @@
-use Rattle.std.proofs.Common.{◌≡◌, map, take, length}
+use Rattle.std.proofs.Common.{◌≡◌, map, take}
 use Rattle.logic_graph.specs.Settled.{bit_of}
 use Rattle.cycle_sim.proofs.settling.take_over_all.Given as goal
 

@@ -4,8 +4,9 @@ use Rattle.agm_net.specs.Formula.{Formula, formula_of, stands, value}
 use Rattle.agm_net.specs.Plain.{line_of}
 use Rattle.simple_masking.specs.Simple.{IsLinear}
 use Rattle.agm_net.specs.View.{plain_of}
+use Rattle.agm_net.proofs.Wires.{lines_fit}
 use Rattle.share_wiring.specs.Gates.{gate_formula}
-use Rattle.share_wiring.proofs.Drivers.{fresh_lines, lines_fit}
+use Rattle.share_wiring.proofs.Drivers.{fresh_lines}
 use Rattle.hpc2_gadget.proofs.Sizes.{array_fits}
 use Rattle.simple_masking.specs.Shared.{is_input_bit, Solves, HasSharing, worth}
 use Rattle.share_wiring.proofs.Runs.{extends_refl, extends_trans}

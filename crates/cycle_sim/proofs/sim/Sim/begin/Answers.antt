@@ -1,4 +1,4 @@
-use Rattle.std.proofs.Common.{◌≡◌, ◌≤◌, ap, sym, subst, length, ◌∙◌, arith, IsTrue, rules, refl, map, ◌++◌}
+use Rattle.std.proofs.Common.{◌≡◌, ap, sym, length, ◌∙◌, arith, rules, refl}
 use Rattle.std.proofs.lemmas.List.{length-map}
 use Rattle.agm_net.specs.Plain.{stored_of}
 use Rattle.agm_net.specs.View.{plain_of}

@@ -1,4 +1,4 @@
-use Rattle.std.proofs.Common.{◌≡◌, subst, sym}
+use Rattle.std.proofs.Common.{subst}
 use Rattle.cycle_sim.specs.Moved.{HasSettled}
 use Rattle.cycle_sim.proofs.Cycles.{first_runs, next_runs}
 use Rattle.cycle_sim.proofs.sim.Sim.step.Goals as goal

@@ -1,4 +1,4 @@
-use Rattle.std.proofs.Common.{◌≡◌, ◌-◌, ◌≤◌, ap, sym, subst, length, map, take, drop, ◌∙◌, arith, IsTrue, rules}
+use Rattle.std.proofs.Common.{◌≡◌, ◌-◌, ◌≤◌, ap, sym, subst, length, take, drop, ◌∙◌, arith, IsTrue}
 use Rattle.std.proofs.lemmas.List.{length-map, length-take, length-drop}
 use Rattle.logic_graph.specs.Settled.{bit_of}
 use Rattle.cycle_sim.specs.Fits.{sources_fit}

@@ -1,4 +1,4 @@
-use Rattle.std.proofs.Common.{◌≡◌, ap₂, get_or, ◌∙◌}
+use Rattle.std.proofs.Common.{ap₂, get_or, ◌∙◌}
 use Rattle.logic_graph.specs.Settled.{bit_of}
 use Rattle.cycle_sim.proofs.Cycles.{last_value}
 use Rattle.cycle_sim.proofs.sim.Sim.value.Goals as goal
