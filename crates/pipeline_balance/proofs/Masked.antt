@@ -9,11 +9,9 @@ use Rattle.agm_net.specs.WellFormed.{WellFormed}
 use Rattle.agm_net.specs.declared.mark.Mark.{Mark}
 use Rattle.agm_net.specs.declared.port.Way.TheVariants.{Output}
 use Rattle.agm_net.specs.declared.port.Port.{Port}
-use Rattle.logic_graph.specs.Nodes.{reads_before}
 use Rattle.logic_graph.specs.Settled.{bit_of}
 use Rattle.logic_graph.specs.GraphOf.{IsGraphOf, output_bits}
-use Rattle.logic_graph.specs.Traces.{Computes}
-use Rattle.logic_graph.specs.declared.nodes.Node.{Node}
+use Rattle.agm_net.specs.Loop.{HasNoLoop}
 use Rattle.logic_graph.specs.declared.graphs.Graph.{Graph}
 use Rattle.share_wiring.specs.Recombine.{masked_value}
 use Rattle.share_wiring.specs.Same.{TellsSecrets, Same}
@@ -107,8 +105,8 @@ read_in : (balance : Balance) (period latency depth s k : ℕ) → balance ≡ P
 read_in balance period latency depth s k b p l = ap (λ x. reading_cycle x period latency s k) b ∙ ap₂ (λ x y. 1 + s + x * k + y) p l
 
 module _ (original : PlainNet) (marks : List Mark) (graph : Graph) (m : Machine) (report : Report) (net : PlainNet) (level : ℕ → ℕ) (depth : ℕ)
-    (well : WellFormed original) (graph_of : IsGraphOf original graph) (computes : Computes original graph)
-    (in_order : (k : ℕ) (n : Node) → slice_get graph.nodes k ≡ Some n → IsTrue (reads_before k n)) (of : IsMachineOf original graph m)
+    (well : WellFormed original) (graph_of : IsGraphOf original graph) (none : HasNoLoop original)
+    (of : IsMachineOf original graph m)
     (pipe : IsPipeReport report depth) (widths_right : HasWidths original report net) where
   module _ (secrets : List Bool) (tells : TellsSecrets original marks secrets) (table : List Row) (streams : List Stream) (steps : ℕ)
       (drives : Drives original secrets report net streams steps table) (s : ℕ) (one_of : s < length streams)
@@ -143,12 +141,12 @@ module _ (original : PlainNet) (marks : List Mark) (graph : Graph) (m : Machine)
         (λ o lo. (
         let known : o < length (output_bits original) = subst (λ n. o < n) (length-map (output_bits original) (bit_at first k)) lo in
         outputs_right m level depth (length table) (signals_of original secrets report net (bit_at table) node state) s (length first) (bit_of (stream_at streams s).initial)
-        (inputs_in original graph m well graph_of computes in_order of (stream_at streams s).initial (stream_at streams s).steps first trace)
-        (states_in original graph m well graph_of computes in_order of (stream_at streams s).initial (stream_at streams s).steps first trace)
-        (values_in original graph m well graph_of computes in_order of (stream_at streams s).initial (stream_at streams s).steps first trace)
+        (inputs_in original graph m well none graph_of of (stream_at streams s).initial (stream_at streams s).steps first trace)
+        (states_in original graph m well none graph_of of (stream_at streams s).initial (stream_at streams s).steps first trace)
+        (values_in original graph m well none graph_of of (stream_at streams s).initial (stream_at streams s).steps first trace)
         of.machine pipeline (driven node state)
-        (trace_runs original graph m well graph_of computes in_order of (stream_at streams s).initial (stream_at streams s).steps first trace) k lt o (omega arith)
-        ∙ trace_outputs original graph m well graph_of computes in_order of (stream_at streams s).initial (stream_at streams s).steps first trace k o lt known))
+        (trace_runs original graph m well none graph_of of (stream_at streams s).initial (stream_at streams s).steps first trace) k lt o (omega arith)
+        ∙ trace_outputs original graph m well none graph_of of (stream_at streams s).initial (stream_at streams s).steps first trace k o lt known))
 
     port_is : (node state : ℕ → Signal) → IsPipeline m level depth (length table) (signals_of original secrets report net (bit_at table) node state)
         → (k : ℕ) → k < length first → (n : ℕ) (p : Port) → slice_get original.ports n ≡ Some p → p.way ≡ Output

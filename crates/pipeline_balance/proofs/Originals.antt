@@ -2,22 +2,21 @@
 use Rattle.std.proofs.Common.{◌≡◌, ◌<◌, ◌+◌, ◌&&◌, ℕ, zero, suc, Bool, false, not, List, map, length, slice_get, get_or, Some, IsTrue, nat_lt, refl, sym, ap, ap₂, ◌∙◌, arith, inl, inr}
 use Rattle.std.proofs.lemmas.Bool.{and_parts, ltb-true}
 use Rattle.std.proofs.lemmas.Option.{slice_get-get_or, slice_get_within, get_or_from_slice_get, slice_get_cases}
-use Rattle.agm_net.specs.Formula.{xor, value, reads_below}
+use Rattle.agm_net.specs.Formula.{xor, value}
+use Rattle.agm_net.specs.Loop.{HasNoLoop}
 use Rattle.agm_net.specs.Plain.{PlainNet, Stored}
 use Rattle.agm_net.specs.Trace.{Row, row_at, bit_at, IsTrace}
 use Rattle.agm_net.specs.WellFormed.{WellFormed}
-use Rattle.logic_graph.specs.Nodes.{reads_before, xan_reads_before}
-use Rattle.logic_graph.specs.Settled.{bit_of, IsSettled}
-use Rattle.logic_graph.specs.GraphOf.{IsGraphOf, drawing_of, output_bits}
-use Rattle.logic_graph.specs.Traces.{held, Computes}
-use Rattle.logic_graph.specs.declared.nodes.Node.{Node}
+use Rattle.logic_graph.specs.Nodes.{xan_reads_before}
+use Rattle.logic_graph.specs.Settled.{bit_of}
+use Rattle.logic_graph.specs.GraphOf.{IsGraphOf, output_bits}
+use Rattle.logic_graph.specs.Traces.{held, sink, TellsBits}
 use Rattle.logic_graph.specs.declared.nodes.XanNode.{XanNode}
 use Rattle.logic_graph.specs.declared.nodes.XanNode.TheVariants.{Zero, One, Input, Q, Not, Xor, And}
 use Rattle.logic_graph.specs.declared.graphs.Graph.{Graph}
-use Rattle.logic_graph.proofs.Lists.{all_of_one}
-use Rattle.logic_graph.proofs.Values.{same_value, wire_bit, stood, settled, is_settled}
-use Rattle.logic_graph.proofs.GraphMade.{reads_are_below, next_reads, get_image}
-use Rattle.logic_graph.proofs.OneTrace.{held_at}
+use Rattle.agm_net.proofs.Lists.{get_image}
+use Rattle.logic_graph.proofs.Held.{held_at}
+use Rattle.logic_graph.proofs.Values.{settled_row, is_settled, tells_bits, trace_cycle}
 use Rattle.pipeline_balance.specs.Machines.{Machine, IsMachineRun, Solves, xan_value, out_node, next_node}
 use Rattle.pipeline_balance.specs.Originals.{IsMachineOf}
 
@@ -63,8 +62,7 @@ image_bit f xs i x at = get_or_from_slice_get (map f xs) i (f x) false (get_imag
 found : {X : Type 0} (xs : List X) (i : ℕ) → i < length xs → (x : X) × (slice_get xs i ≡ Some x)
 found xs i lt = elim (slice_get_cases xs i).1 [ inl here ↦ (here.0, here.2) | inr past ↦ absurd (let le = past.0 in omega arith) ]
 
-module _ (net : PlainNet) (graph : Graph) (m : Machine) (well : WellFormed net) (graph_of : IsGraphOf net graph) (computes : Computes net graph)
-    (in_order : (k : ℕ) (n : Node) → slice_get graph.nodes k ≡ Some n → IsTrue (reads_before k n)) (of : IsMachineOf net graph m)
+module _ (net : PlainNet) (graph : Graph) (m : Machine) (well : WellFormed net) (none : HasNoLoop net) (graph_of : IsGraphOf net graph) (of : IsMachineOf net graph m)
     (power : Row) (tape table : List Row) (trace : IsTrace net power tape table) where
   abbrev pub inputs_in : ℕ → ℕ → Bool
   inputs_in k = bit_of (row_at tape k)
@@ -76,33 +74,28 @@ module _ (net : PlainNet) (graph : Graph) (m : Machine) (well : WellFormed net) 
   values_in k = evaluated m.nodes (inputs_in k) (states_in k)
 
   abbrev row_in : ℕ → Row
-  row_in k = settled graph (row_at tape k) (held net (bit_at table k))
-
-  row_settled : (k : ℕ) → IsSettled graph.nodes (row_at tape k) (held net (bit_at table k)) (row_in k)
-  row_settled k = is_settled graph in_order (row_at tape k) (held net (bit_at table k))
+  row_in k = settled_row graph.nodes graph.in_order (row_at tape k) (held net (bit_at table k))
 
   values_solve : (k : ℕ) → Solves m.nodes (inputs_in k) (states_in k) (values_in k)
   values_solve k = (let machine = of.machine in solves m.nodes machine.in_order (inputs_in k) (states_in k))
 
-  wire_value : (k w : ℕ) → k < length table → w < length net.wires → bit_at table k w ≡ wire_bit graph.of_wire (row_in k) w
-  wire_value k w lt lw = computes power tape table trace k lt (row_in k) (row_settled k) w lw
+  tells : (k : ℕ) → k < length table → TellsBits net graph (bit_at table k) (bit_of (row_in k))
+  tells k lt =
+      tells_bits net graph well none graph_of (bit_at tape k) (states_in k) (bit_at table k) (bit_of (row_in k)) (trace_cycle net power tape table trace k lt)
+      (is_settled graph.nodes graph.in_order (row_at tape k) (held net (bit_at table k))).is_value
 
   -- the values at the sinks
-  at_sink : (k j node : ℕ) → slice_get graph.sinks j ≡ Some node → values_in k (get_or m.sinks j 0) ≡ bit_of (row_in k) node
-  at_sink k j node at =
-      of.same (row_at tape k) (held net (bit_at table k)) (row_in k) (values_in k) (row_settled k) (values_solve k) j (slice_get_within graph.sinks j node at)
-      ∙ ap (bit_of (row_in k)) (get_or_from_slice_get graph.sinks j node 0 at)
+  at_sink : (k j : ℕ) → j < length graph.sinks → values_in k (get_or m.sinks j 0) ≡ bit_of (row_in k) (sink graph j)
+  at_sink k j within =
+      of.same (row_at tape k) (held net (bit_at table k)) (row_in k) (values_in k) (is_settled graph.nodes graph.in_order (row_at tape k) (held net (bit_at table k))) (values_solve k) j within
 
   next_value : (k i : ℕ) (r : Stored) → k < length table → slice_get net.registers i ≡ Some r → values_in k (next_node m i) ≡ value (bit_at table k) r.next
   next_value k i r lt at =
       let next = graph_of.next i r at in
       let count = of.outputs in
       let place : m.outputs + i ≡ length (output_bits net) + i = omega arith in
-      let reads : IsTrue (reads_below (length net.wires) r.next) = all_of_one (λ f. IsTrue (reads_below (length net.wires) f)) (map (λ (x : Stored). x.next) net.registers) i r.next (next_reads net well) (get_image (λ (x : Stored). x.next) net.registers i r at) in
       ap (λ j. values_in k (get_or m.sinks j 0)) place
-      ∙ (at_sink k (length (output_bits net) + i) next.0 next.1
-      ∙ (sym (stood (drawing_of graph) (row_at tape k) (held net (bit_at table k)) (row_in k) (row_settled k) r.next _ next.0 next.2)
-      ∙ sym (same_value (bit_at table k) (wire_bit graph.of_wire (row_in k)) r.next (λ w stands_w. wire_value k w lt (reads_are_below (length net.wires) r.next reads w stands_w)))))
+      ∙ (at_sink k (length (output_bits net) + i) (slice_get_within graph.sinks (length (output_bits net) + i) next.0 next.1) ∙ (tells k lt).next i r at)
 
   pub trace_runs : IsMachineRun m (length table) (bit_of power) inputs_in states_in values_in
   trace_runs = record {
@@ -121,11 +114,6 @@ module _ (net : PlainNet) (graph : Graph) (m : Machine) (well : WellFormed net) 
   trace_outputs k o lt known =
       let wire = found (output_bits net) o known in
       let total = graph_of.sinks in
-      let node = found graph.sinks o (omega arith) in
-      let of_wire : slice_get graph.of_wire wire.0 ≡ Some node.0 = sym (graph_of.outputs o wire.0 wire.1) ∙ node.1 in
-      let within = slice_get_within graph.of_wire wire.0 node.0 of_wire in
-      let wires = graph_of.wires in
-      at_sink k o node.0 node.1
-      ∙ (sym (ap (bit_of (row_in k)) (get_or_from_slice_get graph.of_wire wire.0 node.0 0 of_wire))
-      ∙ (sym (wire_value k wire.0 lt (omega arith))
-      ∙ sym (image_bit (bit_at table k) (output_bits net) o wire.0 wire.1)))
+      at_sink k o (omega arith)
+      ∙ ((tells k lt).outputs o wire.0 wire.1
+      ∙ sym (image_bit (bit_at table k) (output_bits net) o wire.0 wire.1))

@@ -5,7 +5,7 @@ use Rattle.agm_net.specs.Plain.{PlainNet, is_input, input_bits, data_ports}
 use Rattle.agm_net.specs.Trace.{Row}
 use Rattle.agm_net.specs.declared.port.Port.{Port}
 use Rattle.logic_graph.specs.Settled.{bit_of}
-use Rattle.logic_graph.proofs.GraphMade.{get_image}
+use Rattle.agm_net.proofs.Lists.{get_image}
 use Rattle.share_wiring.specs.Recombine.{masked_value}
 use Rattle.share_wiring.specs.Schedule.{input_values}
 use Rattle.share_wiring.specs.declared.report.Report.{Report}

@@ -12,12 +12,10 @@ ghost use Rattle.share_wiring.specs.declared.report.Report.{Report};
 ghost use Rattle.pipeline_balance.specs.Masked.{merged, IsPipelined, IsPipeReport};
 ghost use Rattle.agm_net.specs.Trace.{Row, row_at, bit_at, IsTrace};
 ghost use Rattle.agm_net.specs.WellFormed.{WellFormed};
-ghost use Rattle.logic_graph.specs.Nodes.{reads_before, xan_reads_before};
+ghost use Rattle.logic_graph.specs.Nodes.{xan_reads_before};
 ghost use Rattle.logic_graph.specs.Settled.{bit_of};
 ghost use Rattle.logic_graph.specs.GraphOf.{IsGraphOf, output_bits};
-ghost use Rattle.logic_graph.specs.Traces.{Computes};
 ghost use Rattle.logic_graph.specs.declared.graphs.Graph.{Graph};
-ghost use Rattle.logic_graph.specs.declared.nodes.Node.{Node};
 ghost use Rattle.pipeline_balance.specs.Originals.{IsMachineOf};
 ghost use Rattle.logic_graph.specs.declared.nodes.XanNode.{XanNode};
 ghost use Rattle.share_wiring.specs.Wiring.{Wiring, share};
@@ -43,8 +41,7 @@ pub fn pipelines_are_right()
 
 /// A law: each trace of a net is a run of each machine that computes what the net does, with the trace's outputs.
 pub fn traces_are_runs()
-    ensures { (net : PlainNet) (graph : Graph) (m : Machine) → WellFormed net → IsGraphOf net graph → Computes net graph →
-        ((k : ℕ) (n : Node) → slice_get graph.nodes k ≡ Some n → IsTrue (reads_before k n)) → IsMachineOf net graph m →
+    ensures { (net : PlainNet) (graph : Graph) (m : Machine) → WellFormed net → HasNoLoop net → IsGraphOf net graph → IsMachineOf net graph m →
         (power : Row) (tape table : List Row) → IsTrace net power tape table →
         (states : ℕ → ℕ → Bool) × (values : ℕ → ℕ → Bool) × IsMachineRun m (length table) (bit_of power) (λ k. bit_of (row_at tape k)) states values
         × ((k o : ℕ) → k < length table → o < length (output_bits net) → values k (out_node m o) ≡ bit_of (map (bit_at table k) (output_bits net)) o) }
@@ -54,8 +51,7 @@ pub fn traces_are_runs()
 /// is the same as the original.
 pub fn pipelined_is_same()
     ensures { (original : PlainNet) (marks : List Mark) (graph : Graph) (m : Machine) (report : Report) (net : PlainNet) (level : ℕ → ℕ) (depth : ℕ) →
-        WellFormed original → WellFormed net → IsGraphOf original graph → Computes original graph →
-        ((k : ℕ) (n : Node) → slice_get graph.nodes k ≡ Some n → IsTrue (reads_before k n)) → IsMachineOf original graph m →
+        WellFormed original → WellFormed net → HasNoLoop original → IsGraphOf original graph → IsMachineOf original graph m →
         IsPipeReport report depth → Shape original report net → HasNoLoop net →
         ((secrets : List Bool) → TellsSecrets original marks secrets → IsPipelined original secrets report net m level depth) → Same original marks report net }
 {}
