@@ -73,17 +73,24 @@ pub enum Label {
 
 /// A wire of a net has at most one label.
 pub fn one_label()
-    ensures { (net : PlainNet) (order wire : ℕ) (a b : Label) → HasLabel net order wire a → HasLabel net order wire b → a ≡ b }
+    ensures { (net : PlainNet) (order wire : ℕ) (a b : Label) →
+        HasLabel net order wire a → HasLabel net order wire b → a ≡ b }
 {}
 
 /// A name is that of one part at most, a part is one wire of a net at most, and a part has the label of its kind.
 pub fn one_part()
-    ensures name { (order : ℕ) (name : List ℕ) (p q : Part) → IsPartName order p name → IsPartName order q name → p ≡ q }
-    ensures wire { (net : PlainNet) (order v w : ℕ) (p : Part) → WellFormed net → v < length net.wires → w < length net.wires → IsPart net order v p → IsPart net order w p → v ≡ w }
-    ensures label { (net : PlainNet) (order w : ℕ) (p : Part) → IsPart net order w p → HasLabel net order w (part_label p.kind p) }
+    ensures name { (order : ℕ) (name : List ℕ) (p q : Part) →
+        IsPartName order p name → IsPartName order q name → p ≡ q }
+    ensures wire { (net : PlainNet) (order v w : ℕ) (p : Part) → WellFormed net →
+        v < length net.wires → w < length net.wires →
+        IsPart net order v p → IsPart net order w p → v ≡ w }
+    ensures label { (net : PlainNet) (order w : ℕ) (p : Part) →
+        IsPart net order w p → HasLabel net order w (part_label p.kind p) }
 {}
 
 /// In an HPC2 network one part reads each bit of `agm_r`, and nothing else does.
 pub fn one_reader()
-    ensures { (net : PlainNet) (order w : ℕ) → Keeps net order w → IsBitOf (codes "agm_r") (name_of net w) → (g : ℕ) × (i : ℕ) × (j : ℕ) × HasLabel net order w (Random g i j) }
+    ensures { (net : PlainNet) (order w : ℕ) → Keeps net order w →
+        IsBitOf (codes "agm_r") (name_of net w) →
+        (g : ℕ) × (i : ℕ) × (j : ℕ) × HasLabel net order w (Random g i j) }
 {}

@@ -4,3 +4,4 @@ pub mod Sums
 pub mod Rows
 pub mod Sizes
 mod Numbers
+mod Shares

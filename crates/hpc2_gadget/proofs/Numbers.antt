@@ -1,5 +1,5 @@
 -- The numbers of parts.
-use Rattle.std.proofs.Common.{◌≡◌, ◌≢◌, ◌<◌, ◌≤◌, ◌+◌, ◌-◌, ◌*◌, ◌^◌, ℕ, zero, suc, refl, subst, sym, arith}
+use Rattle.std.proofs.Common.{◌≡◌, ◌≢◌, ◌<◌, ◌≤◌, ◌+◌, ◌-◌, ◌*◌, ◌^◌, ℕ, zero, suc, refl, subst, arith}
 use Rattle.agm_net.specs.Label.{pairs_before, pair_number}
 
 before_small : (n i : ℕ) → pairs_before n i ≤ i * n

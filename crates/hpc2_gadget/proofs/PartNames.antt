@@ -1,9 +1,8 @@
 -- The name of a part tells its number in the order.
-use Rattle.std.proofs.Common.{◌≡◌, ◌<◌, ◌≤◌, ◌+◌, ◌-◌, ◌*◌, ◌^◌, ◌++◌, ℕ, zero, suc, List, [], ◌∷◌, IsTrue, refl, sym, ap, ap₂, subst, inr, ◌∙◌, arith, ◌&&◌, codes, Bool, le-leb}
-use Rattle.std.specs.List.{AllByRecursion}
+use Rattle.std.proofs.Common.{◌≡◌, ◌<◌, ◌≤◌, ◌+◌, ◌-◌, ◌^◌, ◌++◌, ℕ, List, [], ◌∷◌, IsTrue, refl, sym, ap, ap₂, subst, inr, arith, ◌&&◌, codes, Bool, le-leb}
 use Rattle.std.specs.Fmt.{decimal}
 use Rattle.agm_net.specs.Writable.{is_graphic, IsWritable}
-use Rattle.agm_net.specs.Label.{part, part_text, part_name, gadget_name, pairs_before, pair_number, is_share_kind, HasNumbers, CountsAsShare}
+use Rattle.agm_net.specs.Label.{part, part_text, part_name, gadget_name, pair_number, is_share_kind, HasNumbers, CountsAsShare}
 use Rattle.agm_net.specs.declared.label.PartKind.{PartKind}
 use Rattle.agm_net.specs.declared.label.PartKind.TheVariants.{Clk, A, B, R, Rr, Bb, Vx, V, Na, Ux, U, Wx, W, Mx, M, S, C}
 use Rattle.agm_net.proofs.OnePart.{word, tail, text_is, word_letters, same_text, same_numbers}

@@ -1,5 +1,5 @@
 -- Sums that grow by pairs.
-use Rattle.std.proofs.Common.{◌≡◌, ◌≢◌, ◌<◌, ◌+◌, ℕ, zero, suc, Bool, true, false, not, ◌&&◌, List, length, slice_set, refl, sym, ap, subst, inl, inr, ◌∙◌, arith, add-one}
+use Rattle.std.proofs.Common.{◌≡◌, ◌≢◌, ◌<◌, ◌+◌, ℕ, zero, suc, Bool, true, false, ◌&&◌, List, length, slice_set, refl, sym, ap, subst, inl, inr, ◌∙◌, arith, add-one}
 use Rattle.std.proofs.lemmas.List.{get_or-set_other, get_or-set_same, length-set}
 use Rattle.std.proofs.lemmas.Bool.{cases_eq}
 use Rattle.agm_net.specs.Formula.{xor}
@@ -74,25 +74,6 @@ row_more n j m cycles bits a inverse b sums shares p q below index len before ad
     ∙ (ap (λ v. xor v y) (before inverted t lt)
     ∙ xor_assoc (recombined n bit sums) row y)))))) in
     subst (λ k. recombined n bit (slice_set one j q) ≡ xor (recombined n bit sums) (xor_below k (λ i. pair fa fb i j))) (sym (add-one m)) all
-
-half : (a b r : Bool) → xor (not a && r) (a && xor b r) ≡ xor (a && b) r
-half a b r = grind arith
-
-two_halves : (s s' p q r : Bool) → xor (xor s (xor p r)) (xor s' (xor q r)) ≡ xor (xor s s') (xor p q)
-two_halves s s' p q r = grind arith
-
--- the random bit of a pair cancels in the sum of its two terms
-pub pair_sum : (z z' s s' u w u' w' n n' a a' b b' r rr : Bool) → z ≡ xor s (xor u w) → z' ≡ xor s' (xor u' w')
-    → u ≡ n && rr → w ≡ a && xor b' r → u' ≡ n' && rr → w' ≡ a' && xor b r → rr ≡ r → n ≡ not a → n' ≡ not a'
-    → xor z z' ≡ xor (xor s s') (xor (a && b') (a' && b))
-pair_sum z z' s s' u w u' w' n n' a a' b b' r rr e e' f g f' g' h i i' =
-    let one = half a b' r in
-    let two = half a' b r in
-    let left : xor u w ≡ xor (a && b') r = cc in
-    let right : xor u' w' ≡ xor (a' && b) r = cc in
-    let all = two_halves s s' (a && b') (a' && b) r in
-    let both : xor z z' ≡ xor (xor s (xor (a && b') r)) (xor s' (xor (a' && b) r)) = cc in
-    both ∙ all
 
 pub rows_more : (n j cycles : ℕ) (bits : ℕ → ℕ → Bool) (a inverse b sums shares new : List ℕ)
     → RowsAt n j cycles bits a inverse b sums shares → RowAt n j j cycles bits a inverse b shares new → RowsAt n (j + 1) cycles bits a inverse b sums new

@@ -5,7 +5,8 @@ ghost use Rattle.share_wiring.specs.Wiring.{IsSharing, names, share};
 ghost use Rattle.share_wiring.specs.Adds.{Extends, AddsFact, random_bits};
 ghost use Rattle.agm_net.specs.Label.{is_share_kind};
 ghost use Rattle.hpc2_gadget.specs.Order.{rank, IsIndex, Below};
-ghost use Rattle.hpc2_gadget.specs.Product.{SquareAt, SameAt, InverseAt, RowAt, RowsAt, Multiplies};
+ghost use Rattle.hpc2_gadget.specs.Product.{SquareAt, SameAt, InverseAt, RowFact, RowsFact};
+ghost use Rattle.hpc2_gadget.specs.Product.{Multiplies, SharesAt, random_bit, pair_bit};
 ghost use Rattle.hpc2_gadget.specs.Grown.{Grown, Makes, Fills, triangle};
 ghost use Rattle.share_wiring.specs.Cells.{AddsCells};
 
@@ -107,7 +108,9 @@ fn row<const S: usize>(
     requires summed { IsSharing builder.old.wires S sums.now.shares }
     requires full { length sums.now.shares ≡ S }
     ensures grown { OnOk result (Grown S place.gadget (97 + (j * 320 + j * 20)) j builder.old builder.new) }
-    ensures made { IfOk result (λ z. Makes builder.old builder.new S z.shares (λ cycles bits. RowAt S j j cycles bits a.now.shares inverse.now.shares b.now.shares sums.now.shares z.shares)) }
+    ensures made { IfOk result (λ z. Makes builder.old builder.new S z.shares (λ cycles bits.
+        RowFact S j j cycles bits (λ i. random_bit builder.old.ports (builder.old.given + i))
+        a.now.shares inverse.now.shares b.now.shares sums.now.shares z.shares)) }
 {
     let mut shares = sums.shares;
     for i in 0..j {
@@ -150,7 +153,9 @@ fn rows<const S: usize>(
     requires summed { IsSharing builder.old.wires S sums.now.shares }
     requires full { length sums.now.shares ≡ S }
     ensures grown { OnOk result (Grown S place.gadget (97 + S * 320) (triangle S) builder.old builder.new) }
-    ensures made { IfOk result (λ z. Makes builder.old builder.new S z.shares (λ cycles bits. RowsAt S S cycles bits a.now.shares inverse.now.shares b.now.shares sums.now.shares z.shares)) }
+    ensures made { IfOk result (λ z. Makes builder.old builder.new S z.shares (λ cycles bits.
+        RowsFact S S cycles bits (pair_bit builder.old.ports builder.old.given)
+        a.now.shares inverse.now.shares b.now.shares sums.now.shares z.shares)) }
 {
     let mut all = *sums;
     for j in 0..S {
@@ -176,6 +181,9 @@ fn product<const S: usize>(
     ensures grown { OnOk result (Grown S place.gadget (97 + S * 320) (triangle S) builder.old builder.new) }
     ensures shares { IfOk result (λ c. IsSharing builder.new.wires S c.shares) }
     ensures product { IfOk result (λ c. AddsFact builder.old builder.new (λ cycles bits. Multiplies S cycles bits x.now.shares y.now.shares c.shares)) }
+    ensures each { IfOk result (λ c. AddsFact builder.old builder.new (λ cycles bits.
+        SharesAt S cycles bits (pair_bit builder.old.ports builder.old.given)
+        x.now.shares y.now.shares c.shares)) }
 {
     let a = copies(builder, place, PartKind::A, x)?;
     let b = copies(builder, place, PartKind::B, y)?;
@@ -188,7 +196,10 @@ fn product<const S: usize>(
 /// Adds a gadget that multiplies two sharings: in every trace its answer in cycle t+2 recombines to the product of `a` in cycle t+1
 /// and `b` in cycle t.
 ///
-/// It takes S (S - 1) / 2 fresh random bits. After `Memory` some parts may have been added.
+/// Share i of the answer in cycle t+2 is `a_i b_i`, xor for each other index j `!a_i r ^ a_i (b_j ^ r)`, where r is the random bit of
+/// the pair in cycle t.
+///
+/// It takes S (S - 1) / 2 fresh random bits, in the order of the pairs (0, 1), (0, 2), (1, 2), (0, 3), .. After `Memory` some parts may have been added.
 ///
 /// This is HPC2 (Cassiers, Grégoire, Levi and Standaert, "Hardware Private Circuits: From Trivial Composition to Full
 /// Verification", IEEE Transactions on Computers, 2021).
@@ -209,6 +220,9 @@ pub fn multiply<const S: usize>(
     ensures cells { OnOk result (AddsCells builder.old builder.new) }
     ensures shares { IfOk result (λ c. IsSharing builder.new.wires S c.shares) }
     ensures product { IfOk result (λ c. AddsFact builder.old builder.new (λ cycles bits. Multiplies S cycles bits a.now.shares b.now.shares c.shares)) }
+    ensures each { IfOk result (λ c. AddsFact builder.old builder.new (λ cycles bits.
+        SharesAt S cycles bits (pair_bit builder.old.ports builder.old.given)
+        a.now.shares b.now.shares c.shares)) }
 {
     let gadget = builder.begin_gadget();
     let alloc = builder.alloc();

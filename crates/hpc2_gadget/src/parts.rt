@@ -10,7 +10,7 @@ ghost use Rattle.share_wiring.specs.Adds.{Extends, AddsFact, random_bits};
 ghost use Rattle.agm_net.specs.Label.{is_share_kind};
 ghost use Rattle.hpc2_gadget.specs.Order.{rank, cell, turn, place_of as place_of_spec, IsIndex, Below};
 ghost use Rattle.hpc2_gadget.specs.Grown.{Grown};
-ghost use Rattle.hpc2_gadget.specs.Product.{SquareAt, HalvesAt, PairAt};
+ghost use Rattle.hpc2_gadget.specs.Product.{SquareAt, HalvesAt, CrossAt, random_bit};
 
 use crate::names::{Place, part_name};
 use agm_bits::Memory;
@@ -259,7 +259,10 @@ pub fn pair(
     ensures grown { OnOk result (Grown place.shares place.gadget (117 + (j * 320 + i * 20)) 1 builder.old builder.new) }
     ensures low { IfOk result (λ z. MayBeShare builder.new.wires place.shares i z.0) }
     ensures high { IfOk result (λ z. MayBeShare builder.new.wires place.shares j z.1) }
-    ensures value { IfOk result (λ z. AddsFact builder.old builder.new (λ cycles bits. PairAt cycles bits x.a x.inverse x.b x.sum y.a y.inverse y.b y.sum z.0 z.1)) }
+    ensures value { let r = random_bit builder.old.ports builder.old.given in
+        IfOk result (λ z. AddsFact builder.old builder.new (λ cycles bits.
+        CrossAt cycles bits x.a x.inverse y.b r x.sum z.0
+        × CrossAt cycles bits y.a y.inverse x.b r y.sum z.1)) }
 {
     let bit = builder.random()?;
     let random = gate(builder, place, PartKind::R, i, j, Gate::Same(bit))?;

@@ -1,4 +1,4 @@
-use Rattle.std.proofs.Common.{◌<◌, ◌≤◌, ◌+◌, length, ap, refl, sym, subst, ◌∙◌, arith, List, ℕ}
+use Rattle.std.proofs.Common.{◌≡◌, ◌<◌, ◌≤◌, ◌+◌, length, ap, ap₂, refl, sym, subst, ◌∙◌, arith, List, ℕ}
 use Rattle.agm_net.specs.declared.port.Port.{Port}
 use Rattle.share_wiring.specs.Wiring.{Wiring}
 use Rattle.share_wiring.specs.Adds.{random_bits}
@@ -6,7 +6,9 @@ use Rattle.hpc2_gadget.specs.Grown.{triangle}
 use Rattle.hpc2_gadget.proofs.PartNames.{below_none}
 use Rattle.share_wiring.proofs.Runs.{extends_trans}
 use Rattle.hpc2_gadget.proofs.Made.{begun_later, triangle_half}
+use Rattle.hpc2_gadget.specs.Product.{SharesAt, pair_bit}
 use Rattle.hpc2_gadget.proofs.Rows.{copied}
+use Rattle.hpc2_gadget.proofs.Shares.{copied_shares}
 use Rattle.hpc2_gadget.proofs.Sizes.{array_fits}
 use Rattle.share_wiring.specs.Cells.{AreCells}
 use Rattle.hpc2_gadget.proofs.gadget.multiply.Goals as goal
@@ -76,3 +78,19 @@ returns-clause-product g c cycles bits run =
 pub returns-clause-cells : goal.returns-clause-cells
 returns-clause-cells g c h =
     c.in_ok-answer.ensures.cells (c.in_ok-shares.ensures.grown.cells (c.in_ok-clock.ensures.grown.cells (subst (λ (w : Wiring). AreCells w.wires) (sym c.begin_gadget-gadget.ensures.begun) h)))
+
+pub returns-clause-each : goal.returns-clause-each
+returns-clause-each g c cycles bits run =
+    let begun = c.begin_gadget-gadget.ensures.begun in
+    let one = c.in_ok-clock.ensures.grown in
+    let ports = one.ports ∙ ap (λ (w : Wiring). w.ports) begun in
+    let before : c.begin_gadget-gadget.new.self.given ≡ c.args.builder.now.given = ap (λ (w : Wiring). w.given) begun in
+    let given : c.gate.new.builder.given ≡ c.args.builder.now.given = (let more = one.given in omega (arith, before)) in
+    let answer = c.in_ok-answer.ensures.value cycles bits run in
+    let shares = c.in_ok-shares.ensures.each cycles bits answer.0 in
+    let clock = c.in_ok-clock.ensures.value cycles bits shares.0 in
+    let start = c.begin_gadget-gadget.ensures.adds cycles bits clock.0 in (
+      start.0,
+      subst (λ r. SharesAt g.row.S cycles bits r c.args.a.now.shares c.args.b.now.shares c.in_ok-answer.answer.shares) (ap₂ pair_bit ports given)
+          (copied_shares g.row.S cycles bits (pair_bit c.gate.new.builder.ports c.gate.new.builder.given) c.args.a.now.shares c.args.b.now.shares c.in_ok-shares.shares.shares c.in_ok-answer.answer.shares shares.1 answer.1),
+    )

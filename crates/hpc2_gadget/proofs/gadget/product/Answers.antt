@@ -1,11 +1,13 @@
-use Rattle.std.proofs.Common.{◌≤◌, ◌+◌, ◌*◌, length, ap, refl, subst, arith, zero-add, List}
+use Rattle.std.proofs.Common.{◌≡◌, ◌≤◌, ◌+◌, ◌*◌, length, ap, ap₂, refl, subst, arith, zero-add, List}
 use Rattle.agm_net.specs.declared.port.Port.{Port}
 use Rattle.share_wiring.specs.Adds.{random_bits}
 use Rattle.hpc2_gadget.specs.Grown.{Grown, triangle}
 use Rattle.hpc2_gadget.proofs.PartNames.{below_more}
 use Rattle.hpc2_gadget.proofs.Made.{grown_trans, begun_later, wire_later, sharing_later}
 use Rattle.hpc2_gadget.proofs.Numbers.{one_index}
+use Rattle.hpc2_gadget.specs.Product.{SharesAt, pair_bit}
 use Rattle.hpc2_gadget.proofs.Rows.{whole}
+use Rattle.hpc2_gadget.proofs.Shares.{whole_shares}
 use Rattle.hpc2_gadget.proofs.Sizes.{array_fits}
 use Rattle.hpc2_gadget.proofs.gadget.product.Goals as goal
 
@@ -111,5 +113,24 @@ returns-clause-product g c cycles bits run =
     let b = c.in_ok-b.ensures.filled.facts cycles bits inverse.0 in
     let a = c.in_ok-a.ensures.filled.facts cycles bits b.0 in (
       a.0,
-      whole g.row.S cycles bits c.args.x.now.shares c.args.y.now.shares c.in_ok-a.a.shares c.in_ok-b.b.shares c.in_ok-inverse.inverse.shares c.in_ok-sums.sums.shares c.in_ok-all.all.shares a.1 b.1 inverse.1 sums.1 all.1,
+      whole g.row.S cycles bits c.args.x.now.shares c.args.y.now.shares c.in_ok-a.a.shares c.in_ok-b.b.shares c.in_ok-inverse.inverse.shares c.in_ok-sums.sums.shares c.in_ok-all.all.shares a.1 b.1 inverse.1 sums.1 all.1.0,
+    )
+
+pub returns-clause-each : goal.returns-clause-each
+returns-clause-each g c cycles bits run =
+    let n = g.row.S in
+    let two = grown_trans _ _ _ _ _ _ _ _ _ c.in_ok-a.ensures.grown c.in_ok-b.ensures.grown in
+    let three = grown_trans _ _ _ _ _ _ _ _ _ two c.in_ok-inverse.ensures.grown in
+    let four = grown_trans _ _ _ _ _ _ _ _ _ three c.in_ok-sums.ensures.grown in
+    let given : c.squares.new.builder.given ≡ c.args.builder.now.given = (let more = four.given in omega arith) in
+    let random = ap₂ pair_bit four.ports given in
+    let all = c.in_ok-all.ensures.made.facts cycles bits run in
+    let sums = c.in_ok-sums.ensures.filled.facts cycles bits all.0 in
+    let inverse = c.in_ok-inverse.ensures.filled.facts cycles bits sums.0 in
+    let b = c.in_ok-b.ensures.filled.facts cycles bits inverse.0 in
+    let a = c.in_ok-a.ensures.filled.facts cycles bits b.0 in (
+      a.0,
+      subst (λ r. SharesAt n cycles bits r c.args.x.now.shares c.args.y.now.shares c.in_ok-all.all.shares) random
+          (whole_shares n cycles bits (pair_bit c.squares.new.builder.ports c.squares.new.builder.given) c.args.x.now.shares c.args.y.now.shares c.in_ok-a.a.shares c.in_ok-b.b.shares c.in_ok-inverse.inverse.shares c.in_ok-sums.sums.shares c.in_ok-all.all.shares
+          a.1 b.1 inverse.1 sums.1 all.1.1),
     )

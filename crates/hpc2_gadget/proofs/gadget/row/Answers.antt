@@ -1,9 +1,10 @@
-use Rattle.std.proofs.Common.{◌≤◌, ◌+◌, ◌*◌, slice_set, subst, arith}
+use Rattle.std.proofs.Common.{◌≡◌, ◌≤◌, ◌+◌, ◌*◌, ℕ, slice_set, ap₂, subst, arith}
 use Rattle.share_wiring.specs.Wiring.{MayBeShare, share}
-use Rattle.hpc2_gadget.specs.Grown.{Grown}
-use Rattle.hpc2_gadget.specs.Product.{PairAt, RowAt}
+use Rattle.hpc2_gadget.specs.Grown.{Grown, Makes}
+use Rattle.hpc2_gadget.specs.Product.{CrossAt, RowFact, random_bit}
 use Rattle.hpc2_gadget.proofs.Made.{grown_trans, grown_more, makes_pair}
 use Rattle.hpc2_gadget.proofs.Rows.{row_more}
+use Rattle.hpc2_gadget.proofs.Shares.{pair_of_crosses, row_shares_more}
 use Rattle.hpc2_gadget.proofs.gadget.row.Goals as goal
 
 pub loop-i-preserved : goal.loop-i-preserved
@@ -21,10 +22,27 @@ loop-i-preserved g c =
     let here = subst (λ m. Grown m c.args.place.gadget (117 + (j * 320 + i * 20)) 1 c.loop-i.builder c.pair.new.builder) c.requires.shares c.in_ok-low.ensures.grown in
     let may_low = subst (λ m. MayBeShare c.pair.new.builder.wires m i low) c.requires.shares c.in_ok-low.ensures.low in
     let may_high = subst (λ m. MayBeShare c.pair.new.builder.wires m j high) c.requires.shares c.in_ok-low.ensures.high in
+    let first = c.args.builder.now in
+    let random : ℕ → ℕ = λ k. random_bit first.ports (first.given + k) in
+    let bit = random_bit c.loop-i.builder.ports c.loop-i.builder.given in
+    let is : bit ≡ random i = ap₂ random_bit c.loop-i.invariant.0.ports c.loop-i.invariant.0.given in
     let later : 117 + (j * 320 + i * 20) ≤ 97 + (j * 320 + (i + 1) * 20) = omega arith in (
       grown_more _ _ _ _ _ _ _ later (grown_trans _ _ _ _ _ _ _ _ _ c.loop-i.invariant.0 here),
-      makes_pair n i j low high shares c.args.builder.now c.loop-i.builder c.pair.new.builder (λ cycles bits. RowAt n j i cycles bits a inverse b sums shares)
-          (λ cycles bits. PairAt cycles bits (share a i) (share inverse i) (share b i) (share shares i) (share a j) (share inverse j) (share b j) (share shares j) low high)
-          (λ cycles bits. RowAt n j (i + 1) cycles bits a inverse b sums (slice_set (slice_set shares i low) j high)) c.loop-i-test.true c.requires.index c.loop-i.invariant.1 here.extends may_low may_high
-          c.in_ok-low.ensures.value (λ cycles bits before now. row_more n j i cycles bits a inverse b sums shares low high c.loop-i-test.true c.requires.index c.loop-i.invariant.1.full before now),
+      makes_pair n i j low high shares c.args.builder.now c.loop-i.builder c.pair.new.builder (λ cycles bits. RowFact n j i cycles bits random a inverse b sums shares)
+          (λ cycles bits. CrossAt cycles bits (share a i) (share inverse i) (share b j) bit (share shares i) low × CrossAt cycles bits (share a j) (share inverse j) (share b i) bit (share shares j) high)
+          (λ cycles bits. RowFact n j (i + 1) cycles bits random a inverse b sums (slice_set (slice_set shares i low) j high)) c.loop-i-test.true c.requires.index c.loop-i.invariant.1 here.extends may_low may_high
+          c.in_ok-low.ensures.value
+          (λ cycles bits before now. (
+            row_more n j i cycles bits a inverse b sums shares low high c.loop-i-test.true c.requires.index c.loop-i.invariant.1.full before.0
+                (pair_of_crosses cycles bits (share a i) (share inverse i) (share b i) (share shares i) (share a j) (share inverse j) (share b j) (share shares j) bit low high now.0 now.1),
+            row_shares_more n j i cycles bits random a inverse b sums shares bit low high c.loop-i-test.true c.requires.index c.loop-i.invariant.1.full is before.1 now.0 now.1,
+          )),
     )
+
+pub returns-clause-made : goal.returns-clause-made
+returns-clause-made g c =
+    let first = c.args.builder.now in
+    let end : c.loop-i.i ≡ c.args.j = omega (arith, c.loop-i-test.false, c.loop-i.auto.i-end) in
+    subst
+    (λ m. Makes first c.loop-i.builder g.row.S c.loop-i.shares (λ cycles bits. RowFact g.row.S c.args.j m cycles bits (λ i. random_bit first.ports (first.given + i)) c.args.a.now.shares c.args.inverse.now.shares c.args.b.now.shares c.args.sums.now.shares c.loop-i.shares))
+    end c.loop-i.invariant.1

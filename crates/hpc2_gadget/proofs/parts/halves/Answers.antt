@@ -1,4 +1,4 @@
-use Rattle.std.proofs.Common.{◌≡◌, ◌<◌, ◌+◌, ◌&&◌, ◌∙◌, ap, sym, arith}
+use Rattle.std.proofs.Common.{◌≡◌, ◌<◌, ◌+◌, ◌&&◌, ◌∙◌, ap, arith}
 use Rattle.hpc2_gadget.proofs.Numbers.{two_indices}
 use Rattle.hpc2_gadget.proofs.Made.{grown_trans, grown_more}
 use Rattle.hpc2_gadget.proofs.parts.halves.Goals as goal

@@ -1,7 +1,7 @@
-use Rattle.std.proofs.Common.{◌<◌, ◌+◌, arith}
+use Rattle.std.proofs.Common.{◌<◌, ◌+◌, ◌∙◌, ap, arith}
 use Rattle.hpc2_gadget.proofs.Made.{random_grown, grown_trans, grown_more}
-use Rattle.hpc2_gadget.proofs.Numbers.{random_index, stored_index}
-use Rattle.hpc2_gadget.proofs.Rows.{pair_sum}
+use Rattle.hpc2_gadget.proofs.Numbers.{random_index}
+use Rattle.hpc2_gadget.proofs.Shares.{bit_is_next, cross_is}
 use Rattle.hpc2_gadget.proofs.parts.pair.Goals as goal
 
 pub returns-clause-grown : goal.returns-clause-grown
@@ -24,11 +24,19 @@ returns-clause-value c cycles bits run =
     let here = c.in_ok-here.ensures.value cycles bits there.0 in
     let stored = c.in_ok-stored.ensures.value cycles bits here.0 in
     let random = c.in_ok-random.ensures.value cycles bits stored.0 in
-    let bit = c.in_ok-bit.ensures.adds cycles bits random.0 in (
+    let bit = c.in_ok-bit.ensures.adds cycles bits random.0 in
+    let next = bit_is_next c.args.builder.now c.random.new.self c.in_ok-bit.bit c.in_ok-bit.ensures.given c.requires.random c.in_ok-bit.ensures.next in (
       bit.0,
-      λ t lt inverted inverted'.
-          let soon : t + 1 < cycles = omega arith in
-          pair_sum _ _ _ _ _ _ _ _ _ _ _ _ _ _ _ _ (low.1 (t + 2) lt) (high.1 (t + 2) lt) (here.1 t lt).0 (here.1 t lt).1 (there.1 t lt).0 (there.1 t lt).1 (stored.1 t soon) inverted inverted',
+      (
+        λ t lt inverted.
+            let soon : t + 1 < cycles = omega arith in
+            let now : t < cycles = omega arith in
+            cross_is _ _ _ _ _ _ _ _ _ _ (low.1 (t + 2) lt) (here.1 t lt).0 (here.1 t lt).1 (stored.1 t soon) inverted (random.1 t now ∙ ap (bits t) next),
+        λ t lt inverted.
+            let soon : t + 1 < cycles = omega arith in
+            let now : t < cycles = omega arith in
+            cross_is _ _ _ _ _ _ _ _ _ _ (high.1 (t + 2) lt) (there.1 t lt).0 (there.1 t lt).1 (stored.1 t soon) inverted (random.1 t now ∙ ap (bits t) next),
+      ),
     )
 
 pub returns-clause-low : goal.returns-clause-low
