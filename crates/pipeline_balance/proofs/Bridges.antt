@@ -14,7 +14,7 @@ use Rattle.pipeline_balance.specs.Pipelines.{Signals, IsJoined, IsGadget, IsMade
 use Rattle.pipeline_balance.specs.Shared.{shared, Places, Agree, placed}
 
 -- shares with the same bits recombine to the same
-xor_same : (n : ℕ) (f g : ℕ → Bool) → ((i : ℕ) → i < n → f i ≡ g i) → xor_below n f ≡ xor_below n g
+pub xor_same : (n : ℕ) (f g : ℕ → Bool) → ((i : ℕ) → i < n → f i ≡ g i) → xor_below n f ≡ xor_below n g
 xor_same zero f g h = refl
 xor_same (suc n) f g h =
     let before = xor_same n f g (λ i lt. h i (omega arith)) in

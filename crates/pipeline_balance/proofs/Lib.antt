@@ -13,3 +13,5 @@ pub mod Chaining
 pub mod Sizes
 pub mod Noding
 pub mod Filling
+pub mod Registering
+pub mod Piping

@@ -10,3 +10,5 @@ pub mod Assembled
 pub mod Valued
 pub mod Ranks
 pub mod Chained
+pub mod Registered
+pub mod Piped

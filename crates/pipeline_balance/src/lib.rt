@@ -4,9 +4,13 @@
 mod chains;
 mod laws;
 mod nodes;
+mod pipeline;
+mod registers;
 mod values;
 
 pub use chains::{Chain, Layout};
 pub use laws::{pipelined_is_same, pipelines_are_right, toggle_is_driven, traces_are_runs};
 pub use nodes::make_nodes;
+pub use pipeline::make_pipeline;
+pub use registers::{close_registers, hold_registers};
 pub use values::Value;

@@ -136,8 +136,8 @@ fn product_node<const S: usize>(
     }
 }
 
-// The value of a source.
-fn source_value<const S: usize>(values: &[Value<S>], i: usize) -> Value<S>
+/// The value of a source.
+pub fn source_value<const S: usize>(values: &[Value<S>], i: usize) -> Value<S>
     requires { i < length values.now }
     ensures { result ≡ value_at values.now i }
 {
