@@ -1,0 +1,8 @@
+//! What is secret in a net, and what the ways to process a net cost.
+#![tactic(auto)]
+
+mod fault;
+mod secrets;
+
+pub use fault::SpreadFault;
+pub use secrets::Secrets;
