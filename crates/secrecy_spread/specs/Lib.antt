@@ -5,3 +5,4 @@ pub mod Levels
 pub mod Costs
 pub mod Mode
 pub mod Naive
+pub mod Reach

@@ -2,6 +2,7 @@
 #![tactic(auto)]
 
 mod fault;
+mod reach;
 mod secrets;
 
 pub use fault::SpreadFault;
