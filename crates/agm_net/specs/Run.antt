@@ -1,9 +1,9 @@
 -- The run of a net: what drives each wire, and the bits that follow cycle by cycle.
-use Rattle.std.specs.Prelude.{◌==◌, ℕ, zero, suc, Bool, false, cond, List, [], ◌∷◌, length, map, slice_index_or}
-use Rattle.std.specs.List.{list_any, range_with_len}
+use Rattle.std.specs.Prelude.{◌≡◌, ◌<◌, ◌==◌, ℕ, zero, suc, Bool, false, cond, List, [], ◌∷◌, length, map, slice_get, slice_index_or, Some, IsTrue}
+use Rattle.std.specs.List.{list_any, range_with_len, AllByRecursion}
 use Rattle.agm_net.specs.Formula.{Formula, value, stands}
-use Rattle.agm_net.specs.Plain.{Line, Stored, PlainNet, input_bits, clock_bits}
-use Rattle.agm_net.specs.Trace.{Row, bit_at}
+use Rattle.agm_net.specs.Plain.{Stored, PlainNet, input_bits, clock_bits}
+use Rattle.agm_net.specs.Trace.{Row, row_at, bit_at}
 
 -- What gives a wire its bit: place n of a row of input bits, the clock, an equation, or register n, which stores its next value.
 -- In a net each wire has one of these; a number that is no wire has none.
@@ -14,25 +14,26 @@ pub data Driver : Type 0 where
   d_register : ℕ → Formula → Driver
   d_nothing : Driver
 
--- the driver of a wire among equations, among registers that are numbered from n, and among input bits from place n; else another
-abbrev pub line_driver : List Line → ℕ → Driver → Driver
-line_driver [] w other = other
-line_driver (l ∷ ls) w other = cond (l.0 == w) (d_equation l.1) (line_driver ls w other)
+-- what a net has that gives wire w its bit so
+abbrev pub HasDriver : PlainNet → Driver → ℕ → Type 0
+HasDriver net (d_input n) w = slice_get (input_bits net) n ≡ Some w
+HasDriver net d_clock w = IsTrue (list_any (λ b. b == w) (clock_bits net))
+HasDriver net (d_equation f) w = (n : ℕ) × (slice_get net.lines n ≡ Some (w, f))
+HasDriver net (d_register n next) w = (r : Stored) × (slice_get net.registers n ≡ Some r) × (r.q ≡ w) × (r.next ≡ next)
+HasDriver net d_nothing w = Prim.⊥
 
-abbrev pub register_driver : ℕ → List Stored → ℕ → Driver → Driver
-register_driver n [] w other = other
-register_driver n (r ∷ rs) w other = cond (r.q == w) (d_register n r.next) (register_driver (suc n) rs w other)
+-- what the first item that passes makes of its place, counted from n, and itself; else another driver
+abbrev pub first_driver : {X : Type 0} → (X → Bool) → (ℕ → X → Driver) → ℕ → List X → Driver → Driver
+first_driver passes makes n [] other = other
+first_driver passes makes n (x ∷ xs) other = cond (passes x) (makes n x) (first_driver passes makes (suc n) xs other)
 
-abbrev pub input_driver : ℕ → List ℕ → ℕ → Driver → Driver
-input_driver n [] w other = other
-input_driver n (b ∷ bs) w other = cond (b == w) (d_input n) (input_driver (suc n) bs w other)
-
-abbrev pub clock_driver : List ℕ → ℕ → Driver
-clock_driver bits w = cond (list_any (λ b. b == w) bits) d_clock d_nothing
-
+-- the driver of a wire: its equation, else its register, else its place among the input bits, else the clock
 abbrev pub driver : PlainNet → ℕ → Driver
 driver net w =
-    line_driver net.lines w (register_driver 0 net.registers w (input_driver 0 (input_bits net) w (clock_driver (clock_bits net) w)))
+    first_driver (λ l. l.0 == w) (λ n l. d_equation l.1) 0 net.lines
+    (first_driver (λ r. r.q == w) (λ n r. d_register n r.next) 0 net.registers
+    (first_driver (λ b. b == w) (λ n b. d_input n) 0 (input_bits net)
+    (first_driver (λ b. b == w) (λ n b. d_clock) 0 (clock_bits net) d_nothing)))
 
 -- the bit that a driver asks for in cycle t, by the bits of the cycle before and of this one
 abbrev pub asked : Driver → Row → List Row → (before now : ℕ → Bool) → ℕ → Bool
@@ -47,6 +48,12 @@ asked d_nothing power tape before now t = false
 abbrev pub before : (ℕ → ℕ → Bool) → ℕ → ℕ → Bool
 before x zero w = false
 before x (suc t) w = x t w
+
+-- A table of the size of a trace in which each wire has the bit that its driver asks for, in each cycle.
+pub record KeepsDrivers (net : PlainNet) (power : Row) (tape table : List Row) : Type 0 where
+  pub as_long : length table ≡ length tape
+  pub as_wide : (t : ℕ) → t < length table → length (row_at table t) ≡ length net.wires
+  pub keeps : (t w : ℕ) → t < length table → w < length net.wires → bit_at table t w ≡ asked (driver net w) power tape (before (bit_at table) t) (bit_at table t) t
 
 -- whether what drives a wire reads v in the same cycle, and whether it does so or stores it
 abbrev pub reads_now : Driver → ℕ → Bool
@@ -72,3 +79,8 @@ bit_in net power tape (suc t) w = settled net power tape (bit_in net power tape 
 abbrev pub run_of : PlainNet → Row → List Row → List Row
 run_of net power tape =
     map (λ t. map (bit_in net power tape t) (range_with_len 0 (length net.wires))) (range_with_len 0 (length tape))
+
+-- power-up contents with a bit for each register, and a tape whose rows have one for each input bit
+pub record Fits (net : PlainNet) (power : Row) (tape : List Row) : Type 0 where
+  pub powered : length power ≡ length net.registers
+  pub as_wide : AllByRecursion (λ row. length row ≡ length (input_bits net)) tape

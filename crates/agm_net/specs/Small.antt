@@ -14,6 +14,11 @@ abbrev pub InOrder : (ℕ → Bool) → List Line → Type 0
 InOrder known [] = Unit {0}
 InOrder known (l ∷ ls) = ReadsKnown known l.1 × InOrder (λ w. (w == l.0) || known w) ls
 
+-- the same, where each equation is for a wire that is not known before
+abbrev pub IsFresh : (ℕ → Bool) → List Line → Type 0
+IsFresh known [] = Unit {0}
+IsFresh known (l ∷ ls) = (known l.0 ≡ false) × ReadsKnown known l.1 × IsFresh (λ w. (w == l.0) || known w) ls
+
 -- what an assign or a cell of the small form states: a constant, a wire, or an inversion, product or exclusive or of wires
 abbrev pub IsCell : Formula → Type 0
 IsCell f_zero = Unit {0}
