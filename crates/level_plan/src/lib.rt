@@ -1,6 +1,10 @@
 //! Levels, and which operand of each gadget is late.
 #![tactic(auto)]
 
-mod plan;
+mod flags;
+mod levels;
+mod planning;
+mod plans;
 
-pub use plan::Plan;
+pub use planning::plan;
+pub use plans::Plan;

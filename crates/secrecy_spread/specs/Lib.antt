@@ -6,3 +6,6 @@ pub mod Costs
 pub mod Mode
 pub mod Naive
 pub mod Reach
+pub mod Wires
+pub mod Clock
+pub mod Found

@@ -2,8 +2,13 @@
 #![tactic(auto)]
 
 mod fault;
+mod nodes;
+mod ports;
 mod reach;
 mod secrets;
+mod spreading;
+mod wires;
 
 pub use fault::SpreadFault;
 pub use secrets::Secrets;
+pub use spreading::spread;
