@@ -1,13 +1,13 @@
 -- The later operand as the late one gives the least levels.
-use Rattle.std.proofs.Common.{◌≡◌, ◌<◌, ◌≤◌, ◌+◌, ℕ, zero, suc, Bool, true, false, ◌&&◌, cond, max, min, List, [], ◌∷◌, map, length, slice_get, get_or, Some, IsTrue, All, nat_lt, ltb-true, refl, sym, ap, ◌∙◌, arith, inl, inr}
+use Rattle.std.proofs.Common.{◌≡◌, ◌<◌, ◌≤◌, ◌+◌, ℕ, zero, suc, Bool, true, false, ◌&&◌, cond, max, min, List, [], ◌∷◌, length, slice_get, get_or, Some, IsTrue, All, nat_lt, ltb-true, arith}
 use Rattle.std.specs.List.{AllByRecursion}
-use Rattle.std.proofs.lemmas.Bool.{cases_Bool, and_parts}
+use Rattle.std.proofs.lemmas.Bool.{and_parts}
 use Rattle.std.proofs.lemmas.Option.{slice_get-get_or, get_or_from_slice_get, slice_get_within}
 use Rattle.agm_net.proofs.Lists.{all_places}
 use Rattle.logic_graph.specs.declared.nodes.XanNode.{XanNode}
 use Rattle.logic_graph.specs.declared.nodes.XanNode.TheVariants.{Zero, One, Input, Q, Not, Xor, And}
 use Rattle.logic_graph.specs.Nodes.{xan_reads_before}
-use Rattle.secrecy_spread.specs.Levels.{gadget_level, product_level, xan_level, TellsLevels, greatest, depth_of}
+use Rattle.secrecy_spread.specs.Levels.{gadget_level, xan_level, TellsLevels, depth_of}
 use Rattle.level_plan.specs.PlanOf.{chosen_level, TellsChosen}
 
 -- the level of a product is least
@@ -55,5 +55,5 @@ pub depth_least : (nodes : List XanNode) (sinks : List ℕ) (secret first : ℕ 
     → TellsLevels nodes secret level → TellsChosen nodes secret first other → depth_of secret level sinks ≤ depth_of secret other sinks
 depth_least nodes sinks secret first level other order within tells chosen =
     greatest_least secret level other sinks (all_places (λ s. level s ≤ other s) sinks (λ n s at. (
-        let lt : s < length nodes = (let w = within n s (slice_get_within sinks n s at) in let e = get_or_from_slice_get sinks n s s at in omega arith) in
-        levels_least nodes secret first level other order tells chosen (s + 1) s (omega arith) lt)))
+    let lt : s < length nodes = (let w = within n s (slice_get_within sinks n s at) in let e = get_or_from_slice_get sinks n s s at in omega arith) in
+    levels_least nodes secret first level other order tells chosen (s + 1) s (omega arith) lt)))

@@ -1,10 +1,9 @@
 -- Passes over nodes, one after another.
-use Rattle.std.proofs.Common.{◌≡◌, ◌≢◌, ◌<◌, ◌≤◌, ◌+◌, ◌*◌, ℕ, zero, suc, Bool, true, false, ◌&&◌, ◌||◌, cond, max, min, List, length, slice_get, slice_set, get_or, Some, IsTrue, nat_lt, ltb-true, refl, sym, ap, ap₂, ◌∙◌, subst, arith, inl, inr, get_or-set_same, get_or-set_other}
+use Rattle.std.proofs.Common.{◌≡◌, ◌<◌, ◌≤◌, ◌+◌, ◌*◌, ℕ, Bool, ◌&&◌, ◌||◌, cond, max, min, List, length, slice_get, slice_set, get_or, Some, IsTrue, nat_lt, ltb-true, refl, sym, ap, ap₂, ◌∙◌, subst, arith, inl, inr, get_or-set_same, get_or-set_other}
 use Rattle.std.proofs.lemmas.Bool.{cases_eq, cases_Bool, and_parts, and_from, lt-ltb}
 use Rattle.logic_graph.specs.declared.nodes.XanNode.{XanNode}
 use Rattle.logic_graph.specs.declared.nodes.XanNode.TheVariants.{Zero, One, Input, Q, Not, Xor, And}
 use Rattle.logic_graph.specs.Nodes.{xan_reads_before}
-use Rattle.logic_graph.specs.Settled.{bit_of}
 use Rattle.secrecy_spread.specs.NodeSecrets.{xan_secret}
 use Rattle.secrecy_spread.specs.Levels.{gadget_level, product_level, xan_level}
 use Rattle.level_plan.specs.PlanOf.{level_at}

@@ -1,5 +1,5 @@
 -- The passes over the nodes of a graph of inversions, products and exclusive ors.
-use Rattle.std.specs.Prelude.{◌≡◌, ◌≤◌, ◌+◌, ℕ, Bool, true, List, length, nat_lt, Some, slice_get}
+use Rattle.std.specs.Prelude.{◌≡◌, ℕ, Bool, true, List, length, nat_lt, Some, slice_get}
 use Rattle.logic_graph.specs.declared.nodes.XanNode.{XanNode}
 use Rattle.logic_graph.specs.declared.nodes.XanNode.TheVariants.{Input, Q}
 use Rattle.logic_graph.specs.Settled.{bit_of}

@@ -8,7 +8,7 @@ use Rattle.secrecy_spread.specs.declared.secrets.Secrets.{Secrets}
 use Rattle.secrecy_spread.specs.NodeSecrets.{TellsNodes}
 use Rattle.secrecy_spread.specs.Levels.{gadget_level, TellsLevels, depth_of}
 use Rattle.secrecy_spread.specs.Costs.{is_gadget}
-use Rattle.level_plan.specs.declared.plan.Plan.{Plan}
+use Rattle.level_plan.specs.declared.plans.Plan.{Plan}
 
 abbrev pub level_at : List ℕ → ℕ → ℕ
 level_at levels k = slice_index_or levels k 0

@@ -52,6 +52,7 @@ fn tell_levels(nodes: &[XanNode], secret: &[bool], levels: &mut [usize])
     requires as_many { length levels.old ≡ length nodes.now }
     requires flags { length secret.now ≡ length nodes.now }
     requires zero { (j : ℕ) → level_at levels.old j ≡ 0 }
+    requires small { length nodes.now < 2 ^ 60 }
     requires in_order { (k : ℕ) (n : XanNode) → slice_get nodes.now k ≡ Some n → IsTrue (xan_reads_before k n) }
     ensures { AreLevels nodes.now secret.now levels.new }
 {

@@ -32,7 +32,7 @@ use Rattle.secrecy_spread.specs.Wires.{AreWireSecrets, flags_of, has_source, is_
 use Rattle.secrecy_spread.specs.Clock.{ClockIsOpen}
 use Rattle.secrecy_spread.specs.Found.{IsFound}
 use Rattle.secrecy_spread.specs.SecretsOf.{TellsWires, IsSharedPort, SecretsOf}
-use Rattle.secrecy_spread.specs.Leaks.{Leaks, NoneLeaks, IsFirstLeak}
+use Rattle.secrecy_spread.specs.Leaks.{Leaks, NoneLeaks, IsFirstLeak, TellsPort}
 
 -- whether a secret wire stands in a formula
 abbrev pub secret_in : (ℕ → Bool) → Formula → Bool
@@ -385,3 +385,7 @@ pub secrets_from : (net : PlainNet) (graph : Graph) (marks kinds : List Mark) (f
 secrets_from net graph marks kinds flags slice s well none open_clock long is k f are found =
     secrets_found net graph marks flags s well none open_clock long is (subst (λ ms. AreWireSecrets net ms flags) k are)
     (subst (λ ms. IsFound net graph ms flags s) k (subst (λ fs. IsFound net graph kinds fs s) f found))
+
+pub port_from : (net : PlainNet) (marks kinds : List Mark) (flags slice : List Bool) (ports : List Port) (o : Option ℕ) → kinds ≡ marks → slice ≡ flags → ports ≡ net.ports → AreWireSecrets net kinds flags → IsFirst (is_leak slice) ports kinds o → TellsPort net marks o
+port_from net marks kinds flags slice ports None k f p are first = none_from net marks kinds flags slice ports k f p are first
+port_from net marks kinds flags slice ports (Some n) k f p are first = leak_from net marks kinds flags slice ports n k f p are first

@@ -1,5 +1,5 @@
 -- Outputs that are marked public and have a secret bit.
-use Rattle.std.specs.Prelude.{◌≡◌, ◌<◌, ℕ, List, Some, slice_get}
+use Rattle.std.specs.Prelude.{◌≡◌, ◌<◌, ℕ, List, Option, Some, None, slice_get}
 use Rattle.std.specs.List.{Any}
 use Rattle.agm_net.specs.Plain.{PlainNet}
 use Rattle.agm_net.specs.Secret.{IsSecret}
@@ -25,3 +25,8 @@ IsFirstLeak net marks n = Leaks net marks n × ((j : ℕ) → j < n → Leaks ne
 abbrev pub TellsLeak : PlainNet → List Mark → SpreadFault → Type 0
 TellsLeak net marks (Leak port) = IsFirstLeak net marks port
 TellsLeak net marks Memory = Unit {0}
+
+-- the first port that leaks, if there is one
+abbrev pub TellsPort : PlainNet → List Mark → Option ℕ → Type 0
+TellsPort net marks None = NoneLeaks net marks
+TellsPort net marks (Some n) = IsFirstLeak net marks n

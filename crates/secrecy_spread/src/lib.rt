@@ -11,4 +11,4 @@ mod wires;
 
 pub use fault::SpreadFault;
 pub use secrets::Secrets;
-pub use spreading::spread;
+pub use spreading::{leaking_port, spread};

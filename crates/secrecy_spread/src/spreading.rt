@@ -6,7 +6,7 @@ ghost use Rattle.logic_graph.specs.Settled.{bit_of};
 ghost use Rattle.secrecy_spread.specs.Wires.{AreWireSecrets, flags_of as spec_flags};
 ghost use Rattle.secrecy_spread.specs.Found.{IsFound};
 ghost use Rattle.secrecy_spread.specs.SecretsOf.{SecretsOf};
-ghost use Rattle.secrecy_spread.specs.Leaks.{NoneLeaks, TellsLeak};
+ghost use Rattle.secrecy_spread.specs.Leaks.{NoneLeaks, TellsLeak, TellsPort};
 ghost use Rattle.secrecy_spread.specs.Clock.{ClockIsOpen};
 
 use crate::nodes::node_secrets;
@@ -75,6 +75,22 @@ fn secrets_of(
         nodes,
         ports,
     })
+}
+
+/// The first output port that is marked public and has a secret bit, if there is one. `marks` has one mark for each port.
+///
+/// Takes linear time and memory in the size of the net.
+///
+/// # Errors
+///
+/// `Memory` where memory runs out.
+pub fn leaking_port(alloc: Global, net: &Net, marks: &Marks) -> Result<Option<usize>, Memory>
+    requires { length marks.now.kinds ≡ length net.now.ports }
+    ensures { IfOk result (TellsPort (plain_of net.now) marks.now.kinds) }
+{
+    let kinds = marks.kinds.as_slice();
+    let secret = secret_wires(alloc, net, kinds)?;
+    Ok(first_leak(net.ports.as_slice(), kinds, secret.as_slice()))
 }
 
 /// What is secret in a net: that to which equations and registers lead from the bits of input ports that are marked secure.

@@ -1,6 +1,5 @@
-use Rattle.std.proofs.Common.{◌≡◌, ◌<◌, ap, sym, ◌∙◌, subst, length, get_or, slice_get, Some, IsTrue, arith, false}
+use Rattle.std.proofs.Common.{ap, ◌∙◌, length, get_or, arith, false}
 use Rattle.std.proofs.lemmas.Option.{slice_get-get_or, slice_get_within, get_or_from_slice_get}
-use Rattle.logic_graph.specs.declared.nodes.XanNode.{XanNode}
 use Rattle.logic_graph.specs.declared.nodes.XanNode.TheVariants.{Zero}
 use Rattle.logic_graph.specs.Settled.{bit_of}
 use Rattle.secrecy_spread.specs.NodeSecrets.{xan_secret}

@@ -1,6 +1,5 @@
-use Rattle.std.proofs.Common.{◌≡◌, ◌<◌, ◌≤◌, ◌+◌, ◌*◌, ap, sym, ◌∙◌, subst, length, get_or, slice_get, Some, IsTrue, arith, ℕ}
+use Rattle.std.proofs.Common.{◌<◌, ◌*◌, ap, ◌∙◌, length, get_or, arith}
 use Rattle.std.proofs.lemmas.Option.{slice_get-get_or, slice_get_within, get_or_from_slice_get}
-use Rattle.logic_graph.specs.declared.nodes.XanNode.{XanNode}
 use Rattle.logic_graph.specs.declared.nodes.XanNode.TheVariants.{Zero}
 use Rattle.logic_graph.specs.Settled.{bit_of}
 use Rattle.secrecy_spread.specs.Levels.{xan_level}
@@ -16,7 +15,8 @@ level_of-requires-clause-in_order c =
     reads_later k (length c.loop-k.levels) n (omega arith) (c.requires.in_order k n (slice_get-get_or c.args.nodes.now k Zero c.loop-k-test.true))
 
 pub level_of-requires-clause-low : goal.level_of-requires-clause-low
-level_of-requires-clause-low c = ?
+level_of-requires-clause-low c = λ j lt.
+    (let low = c.loop-k.invariant.low j in let k = c.loop-k-test.true in let small = c.requires.small in omega arith)
 
 pub loop-k-init : goal.loop-k-init
 loop-k-init c = record { tells = λ j n lt at. absurd (omega arith); low = λ j. (let z = c.requires.zero j in omega arith) }
