@@ -8,3 +8,5 @@ pub mod Drawn
 pub mod Sources
 pub mod Made
 pub mod Ordered
+pub mod Machines
+pub mod Live

@@ -1,0 +1,4 @@
+pub mod Reaching
+pub mod WireSecrets
+pub mod NodesTold
+pub mod Agreed
