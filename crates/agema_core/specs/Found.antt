@@ -1,5 +1,5 @@
 -- What a command finds, and how the steps end that all commands have.
-use Rattle.std.specs.Prelude.{◌≡◌, ◌≤◌, ◌<◌, ◌⊎◌, ℕ, List, [], Bool, IsTrue, Option, Some, None, length, map, codes}
+use Rattle.std.specs.Prelude.{◌≡◌, ◌≤◌, ◌<◌, ◌⊎◌, ℕ, List, [], Bool, true, false, IsTrue, Option, Some, None, length, map, codes}
 use Rattle.agm_shelf.specs.Shelf.{Rose, Contents}
 use Rattle.cell_library.specs.Judged.{PlainCell}
 use Rattle.cell_library.specs.Spelled.{Spelled, cell_name, first_fault}
@@ -108,6 +108,16 @@ abbrev pub IsInputEnd : (library net : List ℕ) → Found → (before now : ℕ
 IsInputEnd library net f before now ended =
     ((IsDash library → Prim.⊥) × IsLibraryEnd library f.tells f.sound (f.holds library) before now ended)
     ⊎ (HasCells library f × IsReadEnd net f.tells f.sound (f.holds net) before now ended)
+
+-- a read may have failed before these answers
+abbrev pub may_follow_fault : Ended → Bool
+may_follow_fault (ReadFault file) = true
+may_follow_fault Memory = true
+may_follow_fault _ = false
+
+-- No read has failed, unless the answer tells of one or of want of memory. So nothing is read but what a command reads, and for `-` no file.
+abbrev pub NoReadFailed : (before now : ℕ) → Ended → Type 0
+NoReadFailed before now ended = may_follow_fault ended ≡ false → now ≡ before
 
 -- how the printing may end
 abbrev pub IsPrintEnd : (sound : Bool) → (before now : ℕ) → Ended → Type 0

@@ -1,7 +1,7 @@
 ghost use Rattle.std.specs.Prelude.{◌≡◌, ◌≢◌, ◌⊎◌, ◌≤◌, ◌++◌, IsTrue, Some, None, OnOk, OnErr, IfErr, IfOk, length, string_bytes};
 ghost use Rattle.agm_shelf.specs.Shelf.{AllStay, OthersStay, Continues, IsFrontOrOld, TakesFront};
 ghost use Rattle.agema_texts.specs.Original.{length_limit};
-ghost use Rattle.agema_core.specs.Found.{IsReadEnd, IsPrintEnd};
+ghost use Rattle.agema_core.specs.Found.{IsReadEnd, IsPrintEnd, NoReadFailed};
 ghost use Rattle.agema_core.specs.Left.{IsWriteEnd, IsUntouched};
 
 use agema_answers::{Ended, Refusal};
@@ -54,6 +54,7 @@ pub(crate) fn write_file<H: Shelf>(
     ensures ok { OnOk result (IsTrue (H.tells shelf.old) → H.holds shelf.new name.now ≡ Some text.now) }
     ensures front { OnErr result (IsTrue (H.tells shelf.old) → IsFrontOrOld text.now (H.holds shelf.old name.now) (H.holds shelf.new name.now)) }
     ensures err { IfErr result (IsWriteEnd name.now (H.sound shelf.old) (H.write_faults shelf.old) (H.write_faults shelf.new)) }
+    ensures reads { H.read_faults shelf.new ≡ H.read_faults shelf.old }
     ensures others { OthersStay name.now (H.holds shelf.old) (H.holds shelf.new) }
     ensures goes_on { Continues H.tells H.sound H.read_faults H.write_faults shelf.old shelf.new }
 {
@@ -76,6 +77,8 @@ pub(crate) fn read_file<H: Shelf>(
     ensures within { IfOk result (λ v. length v.items ≤ length_limit) }
     ensures err { IfErr result (IsReadEnd name.now (H.tells shelf.old) (H.sound shelf.old) (H.holds shelf.old name.now) (H.read_faults shelf.old) (H.read_faults shelf.new)) }
     ensures untouched { IfErr result IsUntouched }
+    ensures quiet { OnOk result (H.read_faults shelf.new ≡ H.read_faults shelf.old) }
+    ensures told { IfErr result (NoReadFailed (H.read_faults shelf.old) (H.read_faults shelf.new)) }
     ensures same { AllStay (H.holds shelf.old) (H.holds shelf.new) }
     ensures goes_on { Continues H.tells H.sound H.read_faults H.write_faults shelf.old shelf.new }
 {

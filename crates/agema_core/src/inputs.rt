@@ -1,8 +1,8 @@
-ghost use Rattle.std.specs.Prelude.{◌≡◌, ◌≤◌, IsTrue, Some, None, Ok, Err, OnErr, IfErr, IfOk, length, map};
+ghost use Rattle.std.specs.Prelude.{◌≡◌, ◌≤◌, IsTrue, Some, None, Ok, Err, OnOk, OnErr, IfErr, IfOk, length, map};
 ghost use Rattle.agm_shelf.specs.Shelf.{AllStay, Continues};
 ghost use Rattle.cell_library.specs.Spelled.{cell_of};
 ghost use Rattle.agema_texts.specs.Original.{length_limit};
-ghost use Rattle.agema_core.specs.Found.{IsDash, IsLibrary, IsWrongLibrary, AreCells, IsLibraryEnd, IsInputEnd, found};
+ghost use Rattle.agema_core.specs.Found.{IsDash, IsLibrary, IsWrongLibrary, AreCells, IsLibraryEnd, IsInputEnd, NoReadFailed, found};
 ghost use Rattle.agema_core.specs.Left.{IsUntouched};
 
 use crate::files::read_file;
@@ -42,6 +42,8 @@ fn take_library<H: Shelf>(alloc: Global, shelf: &mut H, name: &str) -> Result<Li
     ensures named { OnErr result (IsDash name.now → ⊥) }
     ensures err { IfErr result (IsLibraryEnd name.now (H.tells shelf.old) (H.sound shelf.old) (H.holds shelf.old name.now) (H.read_faults shelf.old) (H.read_faults shelf.new)) }
     ensures untouched { IfErr result IsUntouched }
+    ensures quiet { OnOk result (H.read_faults shelf.new ≡ H.read_faults shelf.old) }
+    ensures told { IfErr result (NoReadFailed (H.read_faults shelf.old) (H.read_faults shelf.new)) }
     ensures same { AllStay (H.holds shelf.old) (H.holds shelf.new) }
     ensures goes_on { Continues H.tells H.sound H.read_faults H.write_faults shelf.old shelf.new }
 {
@@ -68,6 +70,8 @@ pub(crate) fn read_inputs<H: Shelf>(
     ensures within { IfOk result (λ i. length i.bytes.items ≤ length_limit) }
     ensures err { (prints : Rattle.std.specs.Prelude.Bool) → IfErr result (IsInputEnd library.now net.now (found (H.tells shelf.old) (H.sound shelf.old) prints (H.holds shelf.old)) (H.read_faults shelf.old) (H.read_faults shelf.new)) }
     ensures untouched { IfErr result IsUntouched }
+    ensures quiet { OnOk result (H.read_faults shelf.new ≡ H.read_faults shelf.old) }
+    ensures told { IfErr result (NoReadFailed (H.read_faults shelf.old) (H.read_faults shelf.new)) }
     ensures same { AllStay (H.holds shelf.old) (H.holds shelf.new) }
     ensures goes_on { Continues H.tells H.sound H.read_faults H.write_faults shelf.old shelf.new }
 {

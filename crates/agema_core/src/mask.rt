@@ -2,7 +2,7 @@ ghost use Rattle.std.specs.Prelude.{◌≡◌, ◌⊎◌, ◌++◌, IsTrue, None
 ghost use Rattle.agm_shelf.specs.Shelf.{Continues};
 ghost use Rattle.agema_core.specs.Words.{IsOrder, mask};
 ghost use Rattle.agema_core.specs.Command.{mask_of};
-ghost use Rattle.agema_core.specs.Found.{counts, found};
+ghost use Rattle.agema_core.specs.Found.{NoReadFailed, counts, found};
 ghost use Rattle.agema_core.specs.Answer.{HasCause, IsBuilt, report_name};
 ghost use Rattle.agema_core.specs.Left.{HasLeft, IsWritesEnd, IsDelivery, Leaves, LeftWhole, LeftPart, OthersKeep};
 
@@ -43,6 +43,7 @@ fn write_files<H: Shelf>(
     ensures part { OnErr result (IsTrue (H.tells shelf.old) → LeftPart out.now texts.now.net (string_bytes texts.now.report) (H.holds shelf.old) (H.holds shelf.new)) }
     ensures err { IfErr result (IsWritesEnd out.now (H.sound shelf.old) (H.write_faults shelf.old) (H.write_faults shelf.new)) }
     ensures others { OthersKeep out.now (H.holds shelf.old) (H.holds shelf.new) }
+    ensures reads { H.read_faults shelf.new ≡ H.read_faults shelf.old }
     ensures goes_on { Continues H.tells H.sound H.read_faults H.write_faults shelf.old shelf.new }
 {
     let report = match report_file(alloc, out) {
@@ -66,6 +67,7 @@ fn deliver<H: Shelf, K: Sink>(
     ensures left { Leaves out.now texts.now.net (string_bytes texts.now.report) (string_bytes texts.now.line) (H.tells shelf.old) (H.holds shelf.old) (H.holds shelf.new) (K.tells sink.old) (K.taken sink.old) (K.taken sink.new) result }
     ensures end { IsDelivery out.now (H.sound shelf.old) (K.sound sink.old) (H.write_faults shelf.old) (H.write_faults shelf.new) (K.faults sink.old) (K.faults sink.new) result }
     ensures others { OthersKeep out.now (H.holds shelf.old) (H.holds shelf.new) }
+    ensures reads { H.read_faults shelf.new ≡ H.read_faults shelf.old }
     ensures goes_on { Continues H.tells H.sound H.read_faults H.write_faults shelf.old shelf.new }
 {
     match write_files(alloc, shelf, out, texts) {
@@ -87,6 +89,7 @@ pub(crate) fn run_mask<H: Shelf, K: Sink>(
     ensures left { HasLeft (mask (mask_of words.now)) (H.tells shelf.old) (H.holds shelf.old) (H.holds shelf.new) (K.tells sink.old) (K.taken sink.old) (K.taken sink.new) result }
     ensures cause { HasCause (mask (mask_of words.now)) (found (H.tells shelf.old) (H.sound shelf.old) (K.sound sink.old) (H.holds shelf.old)) (counts (H.read_faults shelf.old) (H.write_faults shelf.old) (K.faults sink.old)) (counts (H.read_faults shelf.new) (H.write_faults shelf.new) (K.faults sink.new)) result }
     ensures others { OthersKeep words.now.out.now (H.holds shelf.old) (H.holds shelf.new) }
+    ensures quiet { NoReadFailed (H.read_faults shelf.old) (H.read_faults shelf.new) result }
 {
     if !is_built(words) {
         return Ended::Refused(Refusal::NotBuilt);

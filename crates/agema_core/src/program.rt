@@ -1,7 +1,7 @@
 ghost use Rattle.std.specs.Prelude.{◌≡◌, None, map, string_bytes, ◌↔◌};
 ghost use Rattle.agema_core.specs.Words.{Request, Asks, HasOrder};
 ghost use Rattle.agema_core.specs.Command.{request_of};
-ghost use Rattle.agema_core.specs.Found.{counts, found};
+ghost use Rattle.agema_core.specs.Found.{NoReadFailed, counts, found};
 ghost use Rattle.agema_core.specs.Answer.{HasCause, IsComplete};
 ghost use Rattle.agema_core.specs.Left.{HasLeft, LeavesAll, OthersStay};
 
@@ -27,6 +27,7 @@ fn run_command<H: Shelf, K: Sink>(
     ensures left { HasLeft (request_of command.now) (H.tells shelf.old) (H.holds shelf.old) (H.holds shelf.new) (K.tells out.old) (K.taken out.old) (K.taken out.new) result }
     ensures cause { HasCause (request_of command.now) (found (H.tells shelf.old) (H.sound shelf.old) (K.sound out.old) (H.holds shelf.old)) (counts (H.read_faults shelf.old) (H.write_faults shelf.old) (K.faults out.old)) (counts (H.read_faults shelf.new) (H.write_faults shelf.new) (K.faults out.new)) result }
     ensures others { OthersStay (request_of command.now) (H.holds shelf.old) (H.holds shelf.new) }
+    ensures quiet { NoReadFailed (H.read_faults shelf.old) (H.read_faults shelf.new) result }
 {
     match command {
         Command::Mask(words) => run_mask(alloc, words, shelf, out),
@@ -45,6 +46,7 @@ pub fn run<H: Shelf, K: Sink>(alloc: Global, words: &[String], shelf: &mut H, ou
     ensures cause { (r : Request) → Asks (map string_bytes words.now) r → HasCause r (found (H.tells shelf.old) (H.sound shelf.old) (K.sound out.old) (H.holds shelf.old)) (counts (H.read_faults shelf.old) (H.write_faults shelf.old) (K.faults out.old)) (counts (H.read_faults shelf.new) (H.write_faults shelf.new) (K.faults out.new)) result }
     ensures complete { (r : Request) → Asks (map string_bytes words.now) r → IsComplete r (found (H.tells shelf.old) (H.sound shelf.old) (K.sound out.old) (H.holds shelf.old)) (counts (H.read_faults shelf.old) (H.write_faults shelf.old) (K.faults out.old)) (counts (H.read_faults shelf.new) (H.write_faults shelf.new) (K.faults out.new)) result }
     ensures others { (r : Request) → Asks (map string_bytes words.now) r → OthersStay r (H.holds shelf.old) (H.holds shelf.new) }
+    ensures quiet { NoReadFailed (H.read_faults shelf.old) (H.read_faults shelf.new) result }
 {
     one_original();
     one_simulation();

@@ -2,7 +2,7 @@ ghost use Rattle.std.specs.Prelude.{◌≡◌, ◌≤◌, None};
 ghost use Rattle.agm_shelf.specs.Shelf.{AllStay, Continues};
 ghost use Rattle.agema_core.specs.Words.{sim};
 ghost use Rattle.agema_core.specs.Command.{sim_of};
-ghost use Rattle.agema_core.specs.Found.{counts, found};
+ghost use Rattle.agema_core.specs.Found.{NoReadFailed, counts, found};
 ghost use Rattle.agema_core.specs.Answer.{HasCause};
 ghost use Rattle.agema_core.specs.Left.{HasLeft};
 
@@ -26,6 +26,7 @@ pub(crate) fn run_sim<H: Shelf, K: Sink>(
     ensures left { HasLeft (sim (sim_of words.now)) (H.tells shelf.old) (H.holds shelf.old) (H.holds shelf.new) (K.tells sink.old) (K.taken sink.old) (K.taken sink.new) result }
     ensures cause { HasCause (sim (sim_of words.now)) (found (H.tells shelf.old) (H.sound shelf.old) (K.sound sink.old) (H.holds shelf.old)) (counts (H.read_faults shelf.old) (H.write_faults shelf.old) (K.faults sink.old)) (counts (H.read_faults shelf.new) (H.write_faults shelf.new) (K.faults sink.new)) result }
     ensures others { AllStay (H.holds shelf.old) (H.holds shelf.new) }
+    ensures quiet { NoReadFailed (H.read_faults shelf.old) (H.read_faults shelf.new) result }
 {
     let inputs = match read_inputs(alloc, shelf, words.library, words.net) {
         Ok(inputs) => inputs,

@@ -75,6 +75,7 @@ pub trait Shelf {
         ensures refused { IsTrue (tells self.old) → limit < length (text_of (holds self.old name.now)) → IsErr result }
 
         ensures failed { result ≡ Err ReadEnd.Failed → Rose (read_faults self.old) (read_faults self.new) }
+        ensures uncounted { result ≢ Err ReadEnd.Failed → read_faults self.new ≡ read_faults self.old }
         ensures missing { IsTrue (sound self.old) → result ≡ Err ReadEnd.Failed → holds self.old name.now ≡ None }
 
         // Whatever it answers, no text changes.
@@ -94,6 +95,7 @@ pub trait Shelf {
 
         ensures others { OthersStay name.now (holds self.old) (holds self.new) }
         ensures failed { result ≡ Err PutEnd.Failed → Rose (write_faults self.old) (write_faults self.new) }
+        ensures reads { read_faults self.new ≡ read_faults self.old }
         ensures unfailing { IsTrue (sound self.old) → result ≢ Err PutEnd.Failed }
         ensures goes_on { Continues tells sound read_faults write_faults self.old self.new };
 
@@ -109,6 +111,7 @@ pub trait Shelf {
 
         ensures others { OthersStay (text_of (pending self.old)) (holds self.old) (holds self.new) }
         ensures failed { result ≡ Err PutEnd.Failed → Rose (write_faults self.old) (write_faults self.new) }
+        ensures reads { read_faults self.new ≡ read_faults self.old }
         ensures unfailing { IsTrue (sound self.old) → result ≢ Err PutEnd.Failed }
         ensures goes_on { Continues tells sound read_faults write_faults self.old self.new };
 
@@ -118,6 +121,7 @@ pub trait Shelf {
         ensures ended { pending self.new ≡ None }
         ensures same { AllStay (holds self.old) (holds self.new) }
         ensures failed { result ≡ Err PutEnd.Failed → Rose (write_faults self.old) (write_faults self.new) }
+        ensures reads { read_faults self.new ≡ read_faults self.old }
         ensures unfailing { IsTrue (sound self.old) → result ≢ Err PutEnd.Failed }
         ensures no_memory { result ≢ Err PutEnd.Memory }
         ensures goes_on { Continues tells sound read_faults write_faults self.old self.new };

@@ -22,6 +22,7 @@ pub fn write_whole<H: Shelf>(
     ensures pending { H.pending shelf.new ≡ None }
     ensures failed { result ≡ Err PutEnd.Failed → Rose (H.write_faults shelf.old) (H.write_faults shelf.new) }
     ensures unfailing { IsTrue (H.sound shelf.old) → result ≢ Err PutEnd.Failed }
+    ensures reads { H.read_faults shelf.new ≡ H.read_faults shelf.old }
     ensures goes_on { Continues H.tells H.sound H.read_faults H.write_faults shelf.old shelf.new }
 {
     shelf.begin(alloc, name)?;
@@ -40,6 +41,7 @@ fn append_pieces<H: Shelf>(shelf: &mut H, name: &str, text: &[u8]) -> Result<(),
     ensures others { OthersStay name.now (H.holds shelf.old) (H.holds shelf.new) }
     ensures failed { result ≡ Err PutEnd.Failed → Rose (H.write_faults shelf.old) (H.write_faults shelf.new) }
     ensures unfailing { IsTrue (H.sound shelf.old) → result ≢ Err PutEnd.Failed }
+    ensures reads { H.read_faults shelf.new ≡ H.read_faults shelf.old }
     ensures goes_on { Continues H.tells H.sound H.read_faults H.write_faults shelf.old shelf.new }
 {
     let mut rest = text;

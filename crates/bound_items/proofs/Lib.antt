@@ -1,4 +1,5 @@
 mod Gives
 mod Instances
+mod Marked
 mod Steps
 mod Quiet

@@ -1,15 +1,14 @@
 -- Loops over what is left of a list.
-use Rattle.std.proofs.Common.{◌≡◌, ◌<◌, ◌≤◌, ◌+◌, ◌++◌, ◌||◌, ℕ, zero, suc, Bool, true, false, not, cond, position, List, [], ◌∷◌, Option, Some, None, map, length, drop, get_or, slice_get, slice_index_or, add-one, drop-cons, refl, ap, sym, ◌∙◌, subst, Result, arith}
+use Rattle.std.proofs.Common.{◌≡◌, ◌<◌, ◌≤◌, ◌+◌, ◌++◌, ℕ, suc, Bool, not, cond, position, List, [], ◌∷◌, Option, Some, None, map, length, drop, get_or, slice_get, slice_index_or, add-one, drop-cons, refl, ap, sym, ◌∙◌, subst, Result, arith}
 use Rattle.std.specs.List.{flat_map, prefix_len}
 use Rattle.std.proofs.lemmas.List.{drop_all, length-map}
-use Rattle.agm_net.specs.Formula.{Formula}
 use Rattle.form_bits.specs.Forms.{Text, Look, look_in}
 use Rattle.form_bits.specs.declared.types.Spot.{Spot}
 use Rattle.form_bits.specs.declared.types.Bit.{Bit}
 use Rattle.verilog_reader.specs.Plain.{PlainConnection}
 use Rattle.cell_library.specs.Judged.{PlainPin, PlainCell}
 use Rattle.bound_items.specs.Events.{Event, line}
-use Rattle.bound_items.specs.Items.{plain_lines, bit_formula, function_lines, output_lines, cell_lines, state_wires, state_flops, function_reads, pin_function, outputs_read, pin_counts, pins_count, state_events}
+use Rattle.bound_items.specs.Items.{plain_lines, bit_formula, function_lines, output_lines, cell_lines, state_wires, state_flops, pin_function, pin_counts, pins_count, state_events}
 use Rattle.bound_items.specs.State.{State, after, with_line, Gives}
 use Rattle.bound_items.specs.declared.netlist.Netlist.{Netlist}
 use Rattle.bound_items.specs.declared.fault.BindFault.{BindFault}
@@ -60,44 +59,6 @@ flat_on f view s n whole xs i x e h all now =
     ap (λ m. after m (flat_map f (map view (drop (i + 1) xs)))) now
     ∙ (sym (after_append s (f (view x)) (flat_map f (map view (drop (i + 1) xs))))
     ∙ (sym (ap (λ es. after s es) (flat_split f view xs i x e h)) ∙ all))
-
--- pins that are read
-
-reads_none : (k : ℕ) (b : Option Bit) → function_reads k b None ≡ false
-reads_none k None = refl
-reads_none k (Some t) = refl
-
-outputs_none : (k : ℕ) (bs : List (Option Bit)) → outputs_read k bs [] ≡ false
-outputs_none k [] = refl
-outputs_none k (b ∷ bs) = refl
-
-neither : (a b : Bool) → a ≡ false → b ≡ false → (a || b) ≡ false
-neither a b e f = ap (λ x. x || b) e ∙ f
-
-reads_split : (k : ℕ) (bs : List (Option Bit)) (ps : List PlainPin) (i : ℕ)
-    → outputs_read k (drop i bs) (drop i ps) ≡ (function_reads k (slice_index_or bs i None) (pin_function (slice_get ps i)) || outputs_read k (drop (suc i) bs) (drop (suc i) ps))
-reads_split k [] ps zero = refl
-reads_split k [] ps (suc i) = refl
-reads_split k (b ∷ bs) [] zero = sym (neither (function_reads k b None) (outputs_read k bs []) (reads_none k b) (outputs_none k bs))
-reads_split k (b ∷ bs) [] (suc i) =
-    outputs_none k (drop i bs)
-    ∙ sym (neither (function_reads k (slice_index_or bs i None) None) (outputs_read k (drop (suc i) bs) []) (reads_none k (slice_index_or bs i None)) (outputs_none k (drop (suc i) bs)))
-reads_split k (b ∷ bs) (p ∷ ps) zero = refl
-reads_split k (b ∷ bs) (p ∷ ps) (suc i) = reads_split k bs ps i
-
-pub reads_here : (k : ℕ) (bs : List (Option Bit)) (ps : List PlainPin) (i : ℕ) (whole : Bool) → outputs_read k (drop i bs) (drop i ps) ≡ whole
-    → function_reads k (slice_index_or bs i None) (pin_function (slice_get ps i)) ≡ true → true ≡ whole
-reads_here k bs ps i whole all here = sym (reads_split k bs ps i ∙ ap (λ x. x || outputs_read k (drop (suc i) bs) (drop (suc i) ps)) here) ∙ all
-
-pub reads_on : (k : ℕ) (bs : List (Option Bit)) (ps : List PlainPin) (i : ℕ) (whole : Bool) → outputs_read k (drop i bs) (drop i ps) ≡ whole
-    → function_reads k (slice_index_or bs i None) (pin_function (slice_get ps i)) ≡ false → outputs_read k (drop (i + 1) bs) (drop (i + 1) ps) ≡ whole
-reads_on k bs ps i whole all here =
-    ap (λ j. outputs_read k (drop j bs) (drop j ps)) (add-one i)
-    ∙ (sym (reads_split k bs ps i ∙ ap (λ x. x || outputs_read k (drop (suc i) bs) (drop (suc i) ps)) here) ∙ all)
-
-pub reads_done : (k : ℕ) (bs : List (Option Bit)) (ps : List PlainPin) (i : ℕ) (whole : Bool) → length bs ≤ i
-    → outputs_read k (drop i bs) (drop i ps) ≡ whole → false ≡ whole
-reads_done k bs ps i whole h all = sym (ap (λ xs. outputs_read k xs (drop i ps)) (drop_all i bs h)) ∙ all
 
 -- pins that count as wires
 

@@ -8,7 +8,7 @@ ghost use Rattle.bound_items.specs.State.{state_of, after, with_pin};
 use crate::Netlist;
 use crate::add::{add_pin, dotted};
 use crate::over::bit_at;
-use crate::reads::{is_clock_of, is_read};
+use crate::reads::{flag_at, is_clock_of, read_pins};
 use crate::site::Site;
 use agm_bits::{Memory, Name};
 use agm_net::Way;
@@ -28,22 +28,28 @@ fn add_counted(
     Ok(add_pin(netlist, name, drivers))
 }
 
-// Whether an input pin counts as a wire without driver.
-fn is_undriven(site: Site<'_>, k: usize) -> bool
-    ensures { (name : Text) → spec.input_counts (spec.is_read (cell_of site.entry.cell.now) site.entry.bits.now site.entry.state k) (spec.is_clock_of (cell_of site.entry.cell.now).state site.entry.state k) name (slice_index_or site.entry.bits.now k None) ≡ cond result (event.pin name 0 ∷ []) [] }
+// Whether an input pin that is read or not counts as a wire without driver.
+fn is_undriven(site: Site<'_>, is_read: bool, k: usize) -> bool
+    ensures { (name : Text) → spec.input_counts is_read (spec.is_clock_of (cell_of site.entry.cell.now).state site.entry.state k) name (slice_index_or site.entry.bits.now k None) ≡ cond result (event.pin name 0 ∷ []) [] }
 {
     match bit_at(site.bits, k) {
-        None => is_read(site.cell, site.bits, site.state, k),
+        None => is_read,
         Some(Bit::Constant(_)) => is_clock_of(site.cell, site.state, k),
         Some(Bit::Wire(_)) => false,
     }
 }
 
 // Adds an input pin where it counts as a wire.
-fn add_input(netlist: Netlist, site: Site<'_>, k: usize, pin: &Pin) -> Result<Netlist, Memory>
-    ensures { IfOk result (λ n. state_of n ≡ after (state_of netlist) (spec.input_counts (spec.is_read (cell_of site.entry.cell.now) site.entry.bits.now site.entry.state k) (spec.is_clock_of (cell_of site.entry.cell.now).state site.entry.state k) (spec.dotted site.entry.instance.now pin.now.name) (slice_index_or site.entry.bits.now k None))) }
+fn add_input(
+    netlist: Netlist,
+    site: Site<'_>,
+    is_read: bool,
+    k: usize,
+    pin: &Pin,
+) -> Result<Netlist, Memory>
+    ensures { IfOk result (λ n. state_of n ≡ after (state_of netlist) (spec.input_counts is_read (spec.is_clock_of (cell_of site.entry.cell.now).state site.entry.state k) (spec.dotted site.entry.instance.now pin.now.name) (slice_index_or site.entry.bits.now k None))) }
 {
-    if is_undriven(site, k) {
+    if is_undriven(site, is_read, k) {
         add_counted(netlist, site.instance, pin, 0)
     } else {
         Ok(netlist)
@@ -67,11 +73,18 @@ fn add_output(
 }
 
 // Adds the pin of a number where it counts as a wire.
-fn add_one(netlist: Netlist, site: Site<'_>, k: usize, pin: &Pin) -> Result<Netlist, Memory>
+fn add_one(
+    netlist: Netlist,
+    site: Site<'_>,
+    is_read: bool,
+    k: usize,
+    pin: &Pin,
+) -> Result<Netlist, Memory>
+    requires { is_read ≡ spec.is_read (cell_of site.cell.now) site.bits.now site.state k }
     ensures { IfOk result (λ n. state_of n ≡ after (state_of netlist) (spec.pin_counts site.entry.instance.now (cell_of site.entry.cell.now) site.entry.bits.now site.entry.state k (pin_of pin.now))) }
 {
     match pin.way {
-        Way::Input => add_input(netlist, site, k, pin),
+        Way::Input => add_input(netlist, site, is_read, k, pin),
         Way::Output => add_output(netlist, site.instance, pin, bit_at(site.bits, k)),
     }
 }
@@ -81,9 +94,10 @@ pub(crate) fn add_pins(netlist: Netlist, site: Site<'_>) -> Result<Netlist, Memo
     ensures { IfOk result (λ n. state_of n ≡ after (state_of netlist) (spec.pins_count site.entry.instance.now (cell_of site.entry.cell.now) site.entry.bits.now site.entry.state 0 (cell_of site.entry.cell.now).pins)) }
 {
     let mut netlist = netlist;
+    let reads = read_pins(netlist.alloc, site.cell, site.bits, site.state)?;
     let pins = site.cell.pins.as_slice();
     for k in 0..pins.len() {
-        netlist = add_one(netlist, site, k, &pins[k])?;
+        netlist = add_one(netlist, site, flag_at(reads.as_slice(), k), k, &pins[k])?;
     }
     Ok(netlist)
 }

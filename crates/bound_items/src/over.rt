@@ -1,6 +1,5 @@
 ghost use Rattle.std.specs.Prelude.{◌≡◌, IfOk, slice_index_or, None};
 ghost use Rattle.agm_net.specs.Formula.{formula_of};
-ghost use Rattle.agm_net.specs.Formula as formula;
 ghost use Rattle.bound_items.specs.Items as spec;
 
 use crate::add::bit_expr;
@@ -58,21 +57,6 @@ pub(crate) fn over(alloc: Global, bits: &[Option<Bit>], expr: &Expr) -> Result<E
             let low = Box::new(alloc, over(alloc, bits, low)?)?;
             let high = Box::new(alloc, over(alloc, bits, high)?)?;
             Ok(Expr::Mux { select, low, high })
-        }
-    }
-}
-
-/// Whether a wire stands in an expression.
-pub(crate) fn stands(k: usize, expr: &Expr) -> bool
-    ensures { result ≡ formula.stands k (formula_of expr.now) }
-{
-    match expr {
-        Expr::Zero | Expr::One => false,
-        Expr::Wire(w) => *w == k,
-        Expr::Not(x) => stands(k, x),
-        Expr::And(x, y) | Expr::Or(x, y) | Expr::Xor(x, y) => stands(k, x) || stands(k, y),
-        Expr::Mux { select, low, high } => {
-            stands(k, select) || (stands(k, low) || stands(k, high))
         }
     }
 }

@@ -9,6 +9,7 @@ invariant-loop-rest g l = record {
   pending : g.H.Shelf.pending l.shelf ≡ Some l.name;
   others : OthersStay l.name (g.H.Shelf.holds l.initial.shelf) (g.H.Shelf.holds l.shelf);
   goes_on : Continues g.H.Shelf.tells g.H.Shelf.sound g.H.Shelf.read_faults g.H.Shelf.write_faults l.initial.shelf l.shelf;
+  reads : g.H.Shelf.read_faults l.shelf ≡ g.H.Shelf.read_faults l.initial.shelf;
 }
 
 abbrev pub decreases-loop-rest : goal.decreases-loop-rest
