@@ -1,0 +1,6 @@
+mod Counting
+mod Network
+mod Once
+mod Sources
+mod Twins
+mod Views
