@@ -16,7 +16,7 @@ seen net T power inputs probes A o =
 
 -- whether a bit of this role is public or a share with a listed index
 abbrev pub sees : List ℕ → BitRole → Bool
-sees indices random_bit = true
+sees indices random_bit = false
 sees indices (share_bit i s) = list_any (nat_eq i) indices
 sees indices open_bit = true
 
