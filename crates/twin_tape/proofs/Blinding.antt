@@ -160,7 +160,7 @@ unchanged o delta B (share_bit index secret) out e =
     ap (λ b. cond b (delta secret) false) (ne_eqb o index (λ same. true≢false (sym (subst (λ k. has B k ≡ true) (sym same) e) ∙ out)))
 
 module _ (net : PlainNet) (d T H o : ℕ) (base : List Row) (first second : Secrets) (held_first : IsHeld T H first) (held_second : IsHeld T H second)
-  (low : o ≤ d) (whole : IsWhole net d) where
+    (low : o ≤ d) (whole : IsWhole net d) where
   abbrev delta : ℕ → Secret → Bool
   delta t s = xor (first t s) (second t s)
 
@@ -172,7 +172,7 @@ module _ (net : PlainNet) (d T H o : ℕ) (base : List Row) (first second : Secr
   moved_causal = record {
     change = λ past made. map (change_of o (delta (length past))) (roles net);
     as_long = λ x is. length-twisted (λ past made. map (change_of o (delta (length past))) (roles net)) [] [] x ∙ length-IsTape (length (roles net)) T x is;
-    rows = λ x is t h. twisted_at (λ past made. map (change_of o (delta (length past))) (roles net)) [] [] x t (subst (λ n. t < n) (sym (length-IsTape (length (roles net)) T x is)) h)
+    rows = λ x is t h. twisted_at (λ past made. map (change_of o (delta (length past))) (roles net)) [] [] x t (subst (λ n. t < n) (sym (length-IsTape (length (roles net)) T x is)) h);
   }
 
   moved_row : (x : List Row) (t : ℕ) → IsTape (length (roles net)) T x → t < T → slice_index_or (moved x) t [] ≡ xor_row (slice_index_or x t []) (map (change_of o (delta t)) (roles net))
@@ -217,10 +217,10 @@ module _ (net : PlainNet) (d T H o : ℕ) (base : List Row) (first second : Secr
       record {
         open_bits = λ t n h small sees. sharing.open_bits t n h small sees ∙ moved_open x t n is (omega arith) small sees;
         recombines = λ t n index s h small role.
-          moved_recombined x t n index s is (omega arith) small role ∙ forth (recombined (roles net) s (slice_index_or x t [])) (first t s) (second t s) (sharing.recombines t n index s (omega arith) small role);
+            moved_recombined x t n index s is (omega arith) small role ∙ forth (recombined (roles net) s (slice_index_or x t [])) (first t s) (second t s) (sharing.recombines t n index s (omega arith) small role);
         held = λ t u n index s ht hu small step role.
-          moved_bit x t n is (omega arith) small ∙ ap₂ xor (sharing.held t u n index s (omega arith) (omega arith) small step role) (change_held t u n index s (omega arith) (omega arith) step role) ∙
-          sym (moved_bit x u n is (omega arith) small)
+            moved_bit x t n is (omega arith) small ∙ ap₂ xor (sharing.held t u n index s (omega arith) (omega arith) small step role) (change_held t u n index s (omega arith) (omega arith) step role) ∙
+            sym (moved_bit x u n is (omega arith) small);
       }
 
   sharing_from : (x : List Row) → length base ≡ T → IsTape (length (roles net)) T x → IsSharing net H base second (moved x) → IsSharing net H base first x
@@ -230,11 +230,11 @@ module _ (net : PlainNet) (d T H o : ℕ) (base : List Row) (first second : Secr
       record {
         open_bits = λ t n h small sees. sharing.open_bits t n h small sees ∙ sym (moved_open x t n is (omega arith) small sees);
         recombines = λ t n index s h small role.
-          back (recombined (roles net) s (slice_index_or x t [])) (first t s) (second t s) (sym (moved_recombined x t n index s is (omega arith) small role) ∙ sharing.recombines t n index s (omega arith) small role);
+            back (recombined (roles net) s (slice_index_or x t [])) (first t s) (second t s) (sym (moved_recombined x t n index s is (omega arith) small role) ∙ sharing.recombines t n index s (omega arith) small role);
         held = λ t u n index s ht hu small step role.
-          cancel (bit_at x t n) (bit_at x u n) (change_of o (delta u) (role_at net n))
-          (ap (xor (bit_at x t n)) (sym (change_held t u n index s (omega arith) (omega arith) step role)) ∙ sym (moved_bit x t n is (omega arith) small) ∙
-          sharing.held t u n index s (omega arith) (omega arith) small step role ∙ moved_bit x u n is (omega arith) small)
+            cancel (bit_at x t n) (bit_at x u n) (change_of o (delta u) (role_at net n))
+            (ap (xor (bit_at x t n)) (sym (change_held t u n index s (omega arith) (omega arith) step role)) ∙ sym (moved_bit x t n is (omega arith) small) ∙
+            sharing.held t u n index s (omega arith) (omega arith) small step role ∙ moved_bit x u n is (omega arith) small);
       }
 
   moved_agree : (B : List ℕ) (x : List Row) → has B o ≡ false → IsTape (length (roles net)) T x → Agree net B x (moved x)
@@ -252,10 +252,10 @@ blind net d pini whole T H power probes ge inside few base first second long_bas
     let move = λ (x : List Row). moved net d T H gap.0 base first second held_first held_second low whole x in
     pairs_same net power probes T is_first is_second move (moved_causal net d T H gap.0 base first second held_first held_second low whole) o
     (λ x is.
-      let is' = moved_tape net d T H gap.0 base first second held_first held_second low whole x is in
-      let tests : is_first x ≡ is_second (move x) =
-          same_tests (is_first x) (is_second (move x))
-          (λ e. (tells_second (move x) is').1 (sharing_to net d T H gap.0 base first second held_first held_second low whole x long_base is ((tells_first x is).0 e)))
-          (λ e. (tells_first x is).1 (sharing_from net d T H gap.0 base first second held_first held_second low whole x long_base is ((tells_second (move x) is').0 e))) in
-      ap₂ (λ b n. cond b n 0) tests
-      (isolated.2 power x (move x) is is' (moved_agree net d T H gap.0 base first second held_first held_second low whole B x gap.2 is) o))
+    let is' = moved_tape net d T H gap.0 base first second held_first held_second low whole x is in
+    let tests : is_first x ≡ is_second (move x) =
+    same_tests (is_first x) (is_second (move x))
+    (λ e. (tells_second (move x) is').1 (sharing_to net d T H gap.0 base first second held_first held_second low whole x long_base is ((tells_first x is).0 e)))
+    (λ e. (tells_first x is).1 (sharing_from net d T H gap.0 base first second held_first held_second low whole x long_base is ((tells_second (move x) is').0 e))) in
+    ap₂ (λ b n. cond b n 0) tests
+    (isolated.2 power x (move x) is is' (moved_agree net d T H gap.0 base first second held_first held_second low whole B x gap.2 is) o))

@@ -90,7 +90,7 @@ is_twisted mask past made (row ∷ tape) [] e rows_are = absurd (omega arith)
 is_twisted mask past made (row ∷ tape) (new ∷ news) e rows_are =
     let head : new ≡ xor_row row (mask past made) = simp append-nil at (rows_are 0 (omega arith)) in
     let tail : news ≡ twisted mask (past ++ row ∷ []) (made ++ new ∷ []) tape =
-        is_twisted mask (past ++ row ∷ []) (made ++ new ∷ []) tape news (omega arith) (λ t h. simp append_assoc (rows_are (suc t) (omega arith))) in
+    is_twisted mask (past ++ row ∷ []) (made ++ new ∷ []) tape news (omega arith) (λ t h. simp append_assoc (rows_are (suc t) (omega arith))) in
     ap₂ (λ x xs. x ∷ xs) head (subst (λ x. news ≡ twisted mask (past ++ row ∷ []) (made ++ x ∷ []) tape) head tail)
 
 pub length-IsTape : (R T : ℕ) (tape : List Row) → IsTape R T tape → length tape ≡ T

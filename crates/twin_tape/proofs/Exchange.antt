@@ -30,8 +30,8 @@ undo : (r r' c c' : Bool) → r' ≡ xor r c → c' ≡ c → r ≡ xor r' c'
 undo r r' c c' e f = grind arith
 
 module _ (net : PlainNet) (names : Names) (d : ℕ) (hpc2 : IsNetwork net names d) (ranked : Ranked net) (probes : List Probe) (A : List ℕ) (T : ℕ) (power : List Bool) (first second random twin : List Row)
-  (is_twin : IsTwin net names probes A T power first second random twin)
-  (same_in : (t n : ℕ) → t < T → n < length (roles net) → sees (known (sights_of names probes) A T 0) (role_at net n) ≡ true → bit_at first t n ≡ bit_at second t n) where
+    (is_twin : IsTwin net names probes A T power first second random twin)
+    (same_in : (t n : ℕ) → t < T → n < length (roles net) → sees (known (sights_of names probes) A T 0) (role_at net n) ≡ true → bit_at first t n ≡ bit_at second t n) where
   abbrev x : ℕ → ℕ → Bool
   x = bit_with net power first random
 
@@ -46,10 +46,10 @@ module _ (net : PlainNet) (names : Names) (d : ℕ) (hpc2 : IsNetwork net names 
       half_swap (has (known (sights_of names probes) A T (suc (suc t))) h) (nat_eq (suc t) T) (stores_seen names probes g h o (suc t))
       (x (suc t) (names.part g KA h 0)) (y (suc t) (names.part g KA h 0)) (x t (names.part g KB o 0)) (y t (names.part g KB o 0))
       (λ next last.
-        let not_last : suc t ≢ T = λ e. true≢false (sym (eq-eqb (suc t) T e) ∙ last) in
-        alike net names d hpc2 ranked T power first second random twin P (twin_ties net names d hpc2 ranked probes A T power first second random twin is_twin same_in) (suc t) (omega arith)
-        (names.part g KA h 0) (there KA h 0 (le, refl)).0
-        (part_sees net names d hpc2 ranked (P (suc t)) g h 0 KA there (le, refl) (known_older (sights_of names probes) A T (suc t) h next)))
+      let not_last : suc t ≢ T = λ e. true≢false (sym (eq-eqb (suc t) T e) ∙ last) in
+      alike net names d hpc2 ranked T power first second random twin P (twin_ties net names d hpc2 ranked probes A T power first second random twin is_twin same_in) (suc t) (omega arith)
+      (names.part g KA h 0) (there KA h 0 (le, refl)).0
+      (part_sees net names d hpc2 ranked (P (suc t)) g h 0 KA there (le, refl) (known_older (sights_of names probes) A T (suc t) h next)))
 
   pub exchanged : IsTwin net names probes A T power second first twin random
   exchanged t n below small =

@@ -42,26 +42,32 @@ has_twins net names d hpc2 ranked T probes A inside distinct low few =
     let sights = sights_of names probes in
     let added = adds_permitted sights A T in
     let B = added.0 in
-    let long : length sights ≡ length probes = length_map (λ probe. sight (names.label probe.wire) probe.cycle) probes in
-    (B, let le = added.2 in omega arith, λ power first second is_first is_second agree.
-    let same_in : (t n : ℕ) → t < T → n < length (roles net) → sees (known sights A T 0) (role_at net n) ≡ true → bit_at first t n ≡ bit_at second t n = λ t n below small e.
-        agree t n (subst (λ k. t < k) (sym (length-IsTape (length (roles net)) T first is_first)) below) small
-        (role_in (known sights A T 0) (A ++ B) (role_at net n) (λ i h. has_swap B A i (subst (λ K. has K i ≡ true) added.1 h)) e) in
-    (twin_of net names d hpc2 ranked probes A T power first second, twin_causal net names d hpc2 ranked probes A T power first second, λ r is.
-    let r' = twin_of net names d hpc2 ranked probes A T power first second r in
-    let x = bit_with net power first r in
-    let y = bit_with net power second r' in
-    let twin : IsTwin net names probes A T power first second r r' = is_twin net names d hpc2 ranked probes A T power first second r is in
-    ap₂ (λ a b. a ++ b)
-    (flat_map-ext (λ probe. map (x probe.cycle) (cone net probe.wire)) (λ probe. map (y probe.cycle) (cone net probe.wire)) probes nil_probe
-    (λ m h. let at = inside m nil_probe h in probe_shows net names d hpc2 ranked probes A T power first second r r' twin same_in m h at.0 at.1))
-    (flat_map-ext (λ i. flat_map (λ t. flat_map (λ w. map (x t) (cone net w)) (output_bits_of net i)) (range_with_len 0 T))
-    (λ i. flat_map (λ t. flat_map (λ w. map (y t) (cone net w)) (output_bits_of net i)) (range_with_len 0 T)) A 0
-    (λ m h. let i = slice_index_or A m 0 in
-    flat_map_range-ext (λ t. flat_map (λ w. map (x t) (cone net w)) (output_bits_of net i)) (λ t. flat_map (λ w. map (y t) (cone net w)) (output_bits_of net i)) 0 T T (omega arith)
-    (λ t below. flat_map-ext (λ w. map (x t) (cone net w)) (λ w. map (y t) (cone net w)) (output_bits_of net i) 0
-    (λ k small. let out = hpc2.outputs i k 0 small in
-    share_shows net names d hpc2 ranked probes A T power first second r r' twin same_in t (slice_index_or (output_bits_of net i) k 0) i below out.0 (has_at A m h) out.1))))))
+    let long : length sights ≡ length probes = length_map (λ probe. sight (names.label probe.wire) probe.cycle) probes in (
+      B,
+      let le = added.2 in omega arith,
+      λ power first second is_first is_second agree.
+          let same_in : (t n : ℕ) → t < T → n < length (roles net) → sees (known sights A T 0) (role_at net n) ≡ true → bit_at first t n ≡ bit_at second t n = λ t n below small e.
+          agree t n (subst (λ k. t < k) (sym (length-IsTape (length (roles net)) T first is_first)) below) small
+          (role_in (known sights A T 0) (A ++ B) (role_at net n) (λ i h. has_swap B A i (subst (λ K. has K i ≡ true) added.1 h)) e) in (
+            twin_of net names d hpc2 ranked probes A T power first second,
+            twin_causal net names d hpc2 ranked probes A T power first second,
+            λ r is.
+                let r' = twin_of net names d hpc2 ranked probes A T power first second r in
+                let x = bit_with net power first r in
+                let y = bit_with net power second r' in
+                let twin : IsTwin net names probes A T power first second r r' = is_twin net names d hpc2 ranked probes A T power first second r is in
+                ap₂ (λ a b. a ++ b)
+                (flat_map-ext (λ probe. map (x probe.cycle) (cone net probe.wire)) (λ probe. map (y probe.cycle) (cone net probe.wire)) probes nil_probe
+                (λ m h. let at = inside m nil_probe h in probe_shows net names d hpc2 ranked probes A T power first second r r' twin same_in m h at.0 at.1))
+                (flat_map-ext (λ i. flat_map (λ t. flat_map (λ w. map (x t) (cone net w)) (output_bits_of net i)) (range_with_len 0 T))
+                (λ i. flat_map (λ t. flat_map (λ w. map (y t) (cone net w)) (output_bits_of net i)) (range_with_len 0 T)) A 0
+                (λ m h. let i = slice_index_or A m 0 in
+                flat_map_range-ext (λ t. flat_map (λ w. map (x t) (cone net w)) (output_bits_of net i)) (λ t. flat_map (λ w. map (y t) (cone net w)) (output_bits_of net i)) 0 T T (omega arith)
+                (λ t below. flat_map-ext (λ w. map (x t) (cone net w)) (λ w. map (y t) (cone net w)) (output_bits_of net i) 0
+                (λ k small. let out = hpc2.outputs i k 0 small in
+                share_shows net names d hpc2 ranked probes A T power first second r r' twin same_in t (slice_index_or (output_bits_of net i) k 0) i below out.0 (has_at A m h) out.1)))),
+          ),
+    )
 
 pub isolates : (net : PlainNet) (names : Names) (d : ℕ) → IsNetwork net names d → Ranked net → Pini net d
 isolates net names d hpc2 ranked = pini_from_twins net d (has_twins net names d hpc2 ranked)

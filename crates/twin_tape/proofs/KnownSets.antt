@@ -171,8 +171,8 @@ module _ (sights : List Sight) (A : List ℕ) (T : ℕ) where
   no_other s m n g i j home o home' o' le ne splits splits' at out apart at' =
       let K = known sights A T (suc s) in
       let both : Both (grown sights s K) i j =
-          ⊎_elim (λ (lt : m < n). grown_two sights s m n g i j home o home' o' K ne splits splits' lt at at')
-          (λ le. grown_two sights s n m g i j home' o' home o K ne splits' splits (omega arith) at' at) (cases_lt m n) in
+      ⊎_elim (λ (lt : m < n). grown_two sights s m n g i j home o home' o' K ne splits splits' lt at at')
+      (λ le. grown_two sights s n m g i j home' o' home o K ne splits' splits (omega arith) at' at) (cases_lt m n) in
       let out' : has (grown sights s K) o ≡ false = subst (λ L. has L o ≡ false) (known_step s le) out in
       ⊎_elim (λ e. true≢false (sym both.1 ∙ subst (λ k. has (grown sights s K) k ≡ false) e.1 out')) (λ e. true≢false (sym both.0 ∙ subst (λ k. has (grown sights s K) k ≡ false) e.1 out')) splits
 

@@ -1,4 +1,5 @@
 mod Agreement
+mod Bijections
 mod Blinding
 mod Causal
 mod Counting
@@ -12,6 +13,7 @@ mod Parts
 mod ShareReads
 mod Sizes
 mod Sources
+mod Splits
 mod TwinMap
 mod TwinTies
 mod TwinViews

@@ -75,6 +75,7 @@ adds_grown (Inner g i j s home ∷ sights) stage K =
     step_adds : (c : Bool) → Adds K (cond c (with (cond (nat_eq home i) j i) K) (home ∷ K)) 1
     step_adds true = adds_with (cond (nat_eq home i) j i) K
     step_adds false = (home ∷ [], refl, omega arith)
+
     here : (b c : Bool) → Adds K (cond b (cond c (with (cond (nat_eq home i) j i) K) (home ∷ K)) K) (cond b 1 0)
     here true c = step_adds c
     here false c = adds_none K 0

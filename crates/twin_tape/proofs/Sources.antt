@@ -101,8 +101,8 @@ ranked_by net well none =
       rank = by.rank;
       few = by.few;
       lower = λ w v inside h.
-        let now = sym (now_of net (driver net w) v) ∙ h in
-        (reads_are_wires net well w v inside (now_is_ever (driver net w) v now), by.lower w v (reads_is net well w v ∙ now))
+          let now = sym (now_of net (driver net w) v) ∙ h in
+          (reads_are_wires net well w v inside (now_is_ever (driver net w) v now), by.lower w v (reads_is net well w v ∙ now));
     }
 
 pub inside_reads : (net : PlainNet) → WellFormed net → (w v : ℕ) → w < length net.wires → reads_ever (source net w) v ≡ true → v < length net.wires

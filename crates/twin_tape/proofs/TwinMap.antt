@@ -76,7 +76,7 @@ module _ (net : PlainNet) (names : Names) (d : ℕ) (hpc2 : IsNetwork net names 
   twin_causal = record {
     change = mask;
     as_long = λ tape is. length-twisted mask [] [] tape ∙ length-IsTape (random_width net) T tape is;
-    rows = λ tape is t h. twisted_at mask [] [] tape t (subst (λ n. t < n) (sym (length-IsTape (random_width net) T tape is)) h)
+    rows = λ tape is t h. twisted_at mask [] [] tape t (subst (λ n. t < n) (sym (length-IsTape (random_width net) T tape is)) h);
   }
 
   -- the change sees the two worlds at a pair's operands alone
@@ -87,9 +87,9 @@ module _ (net : PlainNet) (names : Names) (d : ℕ) (hpc2 : IsNetwork net names 
       let at_i = same i (inl refl) in
       let at_j = same j (inr refl) in
       let half : (h o : ℕ) → x (suc t) (names.part g KA h 0) ≡ x' (suc t) (names.part g KA h 0) → x t (names.part g KB o 0) ≡ x' t (names.part g KB o 0) → y t (names.part g KB o 0) ≡ y' t (names.part g KB o 0) →
-          half_at names probes A T x y t g h o ≡ half_at names probes A T x' y' t g h o = λ h o a b b'.
-          let f : Bool → Bool → Bool → Bool = half_change (has (known (sights_of names probes) A T (suc (suc t))) h) (nat_eq (suc t) T) (stores_seen names probes g h o (suc t)) in
-          ap₂ (λ u v. f u v (y t (names.part g KB o 0))) a b ∙ ap (f (x' (suc t) (names.part g KA h 0)) (x' t (names.part g KB o 0))) b' in
+      half_at names probes A T x y t g h o ≡ half_at names probes A T x' y' t g h o = λ h o a b b'.
+      let f : Bool → Bool → Bool → Bool = half_change (has (known (sights_of names probes) A T (suc (suc t))) h) (nat_eq (suc t) T) (stores_seen names probes g h o (suc t)) in
+      ap₂ (λ u v. f u v (y t (names.part g KB o 0))) a b ∙ ap (f (x' (suc t) (names.part g KA h 0)) (x' t (names.part g KB o 0))) b' in
       ap₂ (λ u v. cond (has now i) (cond (has now j) false u) (cond (has now j) v false)) (half i j at_i.0 at_j.1 at_j.2) (half j i at_j.0 at_i.1 at_i.2)
 
   -- the rows before t of a tape give the values of operands that the change in row t reads
@@ -105,28 +105,30 @@ module _ (net : PlainNet) (names : Names) (d : ℕ) (hpc2 : IsNetwork net names 
       let k = subst (Keeps net names w) found.6 (hpc2.keeps w found.4) in
       let same : n ≡ k.0 = same_number n k.0 (source net w) found.5 k.1 in
       let all = hpc2.whole k.7 g i j KR k.8 k.9 in
-      let lt = all.0.0 in let le = all.0.1 in
-      (subst (There net names d hpc2 ranked) (sym k.3 ∙ ap names.gadget_of (sym same)) all.2,
-       subst (λ i. i ≤ d) (sym k.4 ∙ ap names.small_of (sym same)) (omega arith),
-       subst (λ j. j ≤ d) (sym k.5 ∙ ap names.great_of (sym same)) le)
+      let lt = all.0.0 in let le = all.0.1 in (
+        subst (There net names d hpc2 ranked) (sym k.3 ∙ ap names.gadget_of (sym same)) all.2,
+        subst (λ i. i ≤ d) (sym k.4 ∙ ap names.small_of (sym same)) (omega arith),
+        subst (λ j. j ≤ d) (sym k.5 ∙ ap names.great_of (sym same)) le,
+      )
 
   -- the change in row t by the rows before t is that by the whole tapes
   change_prefix : (tape made : List Row) (t n : ℕ) → n < (random_width net) → change_at (take t tape) (take t made) t n ≡ change_at tape made t n
   change_prefix tape made t n small =
       let pair = bit_pair n small in
       let low : (h : ℕ) → (h ≡ names.small_of n) ⊎ (h ≡ names.great_of n) → h ≤ d = λ h one.
-          ⊎_elim (λ e. subst (λ k. k ≤ d) (sym e) pair.1) (λ e. subst (λ k. k ≤ d) (sym e) pair.2) one in
+      ⊎_elim (λ e. subst (λ k. k ≤ d) (sym e) pair.1) (λ e. subst (λ k. k ≤ d) (sym e) pair.2) one in
       change-ext (bit_with net power first (take t tape)) (bit_with net power first tape) (bit_with net power second (take t made)) (bit_with net power second made) t
       (names.gadget_of n) (names.small_of n) (names.great_of n)
       (λ h one.
-        let le = low h one in
-        let part_a = pair.0 KA h 0 (le, refl) in
-        let part_b = pair.0 KB h 0 (le, refl) in
-        let sees_a = part_sees net names d hpc2 ranked (λ i. Unit {0}) (names.gadget_of n) h 0 KA pair.0 (le, refl) tt in
-        let sees_b = part_sees net names d hpc2 ranked (λ i. Unit {0}) (names.gadget_of n) h 0 KB pair.0 (le, refl) tt in
-        (settled_before first tape t (suc t) (names.part (names.gadget_of n) KA h 0) (omega arith) part_a.0 sees_a,
-         settled_before first tape t t (names.part (names.gadget_of n) KB h 0) (omega arith) part_b.0 sees_b,
-         settled_before second made t t (names.part (names.gadget_of n) KB h 0) (omega arith) part_b.0 sees_b))
+      let le = low h one in
+      let part_a = pair.0 KA h 0 (le, refl) in
+      let part_b = pair.0 KB h 0 (le, refl) in
+      let sees_a = part_sees net names d hpc2 ranked (λ i. Unit {0}) (names.gadget_of n) h 0 KA pair.0 (le, refl) tt in
+      let sees_b = part_sees net names d hpc2 ranked (λ i. Unit {0}) (names.gadget_of n) h 0 KB pair.0 (le, refl) tt in (
+        settled_before first tape t (suc t) (names.part (names.gadget_of n) KA h 0) (omega arith) part_a.0 sees_a,
+        settled_before first tape t t (names.part (names.gadget_of n) KB h 0) (omega arith) part_b.0 sees_b,
+        settled_before second made t t (names.part (names.gadget_of n) KB h 0) (omega arith) part_b.0 sees_b,
+      ))
 
   -- a bit of the row that the mask changes
   masked_bit : (tape made : List Row) (t n : ℕ) → IsTape (random_width net) T tape → t < T → n < (random_width net) →
@@ -150,9 +152,9 @@ module _ (net : PlainNet) (names : Names) (d : ℕ) (hpc2 : IsNetwork net names 
       let as_long : length tape ≡ T = length-IsTape (random_width net) T tape is in
       is_twisted mask [] [] tape made (length-IsTape (random_width net) T made is_made ∙ sym as_long)
       (λ t h.
-        let below : t < T = omega arith in
-        let row = xor_row (slice_index_or tape t []) (mask (take t tape) (take t made)) in
-        let wide : length (slice_index_or made t []) ≡ (random_width net) = wide_at (random_width net) T made t is_made below in
-        let wide_row : length row ≡ (random_width net) = length-xor_row (slice_index_or tape t []) (mask (take t tape) (take t made)) ∙ wide_at (random_width net) T tape t is below in
-        same_rows (slice_index_or made t []) row (wide ∙ sym wide_row)
-        (λ n n_small. let small : n < (random_width net) = omega arith in twin t n below small ∙ sym (masked_bit tape made t n is below small)))
+      let below : t < T = omega arith in
+      let row = xor_row (slice_index_or tape t []) (mask (take t tape) (take t made)) in
+      let wide : length (slice_index_or made t []) ≡ (random_width net) = wide_at (random_width net) T made t is_made below in
+      let wide_row : length row ≡ (random_width net) = length-xor_row (slice_index_or tape t []) (mask (take t tape) (take t made)) ∙ wide_at (random_width net) T tape t is below in
+      same_rows (slice_index_or made t []) row (wide ∙ sym wide_row)
+      (λ n n_small. let small : n < (random_width net) = omega arith in twin t n below small ∙ sym (masked_bit tape made t n is below small)))

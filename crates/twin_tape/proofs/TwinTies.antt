@@ -44,8 +44,8 @@ ordered i j ne =
     ⊎_elim (λ (e : i ≡ j). absurd (ne e)) (λ r. ⊎_elim (λ (lt : i < j). inl (omega arith, omega arith)) (λ gt. inr (omega arith, omega arith)) r) (cases_order i j)
 
 module _ (net : PlainNet) (names : Names) (d : ℕ) (hpc2 : IsNetwork net names d) (ranked : Ranked net) (probes : List Probe) (A : List ℕ) (T : ℕ) (power : List Bool) (first second random twin : List Row)
-  (is_twin : IsTwin net names probes A T power first second random twin)
-  (same_in : (t n : ℕ) → t < T → n < length (roles net) → sees (known (sights_of names probes) A T 0) (role_at net n) ≡ true → bit_at first t n ≡ bit_at second t n) where
+    (is_twin : IsTwin net names probes A T power first second random twin)
+    (same_in : (t n : ℕ) → t < T → n < length (roles net) → sees (known (sights_of names probes) A T 0) (role_at net n) ≡ true → bit_at first t n ≡ bit_at second t n) where
   abbrev pub x : ℕ → ℕ → Bool
   x = bit_with net power first random
 
@@ -73,23 +73,24 @@ module _ (net : PlainNet) (names : Names) (d : ℕ) (hpc2 : IsNetwork net names 
     open_in = λ t n below inside e. same_in t n below inside (subst (λ role. sees (known (sights_of names probes) A T 0) role ≡ true) (sym e) refl);
     share_in = λ t n i below inside p e. same_in t n below inside (sees_in (known (sights_of names probes) A T 0) i (role_at net n) (P_older t 0 i (omega arith) p) e);
     cross = λ c g i j below there ne le_i le_j q p earlier.
-      let p1 : P (suc c) i = known_older (sights_of names probes) A T (suc c) i p in
-      let a_same : x (suc c) (names.part g KA i 0) ≡ y (suc c) (names.part g KA i 0) =
-          earlier (suc c) (omega arith) (names.part g KA i 0) (there KA i 0 (le_i, refl)).0 (part_sees net names d hpc2 ranked (P (suc c)) g i 0 KA there (le_i, refl) p1) in
-      let bit = twin_bit c g (min i j) (max i j) (omega arith) q in
-      ⊎_elim
-      (λ (in_j : has (known (sights_of names probes) A T (suc c)) j ≡ true).
+        let p1 : P (suc c) i = known_older (sights_of names probes) A T (suc c) i p in
+        let a_same : x (suc c) (names.part g KA i 0) ≡ y (suc c) (names.part g KA i 0) =
+        earlier (suc c) (omega arith) (names.part g KA i 0) (there KA i 0 (le_i, refl)).0 (part_sees net names d hpc2 ranked (P (suc c)) g i 0 KA there (le_i, refl) p1) in
+        let bit = twin_bit c g (min i j) (max i j) (omega arith) q in
+        ⊎_elim
+        (λ (in_j : has (known (sights_of names probes) A T (suc c)) j ≡ true).
         let b_same : x c (names.part g KB j 0) ≡ y c (names.part g KB j 0) =
-            earlier c (omega arith) (names.part g KB j 0) (there KB j 0 (le_j, refl)).0
-            (part_sees net names d hpc2 ranked (P c) g j 0 KB there (le_j, refl) (known_older (sights_of names probes) A T c j in_j)) in
+        earlier c (omega arith) (names.part g KB j 0) (there KB j 0 (le_j, refl)).0
+        (part_sees net names d hpc2 ranked (P c) g j 0 KB there (le_j, refl) (known_older (sights_of names probes) A T c j in_j)) in
         let both = both_from (known (sights_of names probes) A T (suc c)) (min i j) (max i j) i j (ordered i j ne) p1 in_j in
         let r_same = no_change (bit_at random c q.number) (bit_at twin c q.number) (bit ∙ ap (xor (bit_at random c q.number)) (change_none names probes A T x y c g (min i j) (max i j) both.0 both.1)) in
         (ap₂ (λ a r. not a && r) a_same r_same, ap₂ (λ a v. a && v) a_same (ap₂ xor b_same r_same)))
-      (λ out_j.
+        (λ out_j.
         let half : bit_at twin c q.number ≡ xor (bit_at random c q.number) (half_change true false (stores_seen names probes g i j (suc c)) (x (suc c) (names.part g KA i 0)) (x c (names.part g KB j 0)) (y c (names.part g KB j 0))) =
-            bit ∙ ap (xor (bit_at random c q.number)) (change_one names probes A T x y c g (min i j) (max i j) i j (ordered i j ne) p1 out_j ∙
-            ap₂ (λ next last. half_change next last (stores_seen names probes g i j (suc c)) (x (suc c) (names.part g KA i 0)) (x c (names.part g KB j 0)) (y c (names.part g KB j 0))) p (ne_eqb (suc c) T (λ e. omega arith))) in
-        (one_in_u (x (suc c) (names.part g KA i 0)) (y (suc c) (names.part g KA i 0)) (x c (names.part g KB j 0)) (y c (names.part g KB j 0)) (bit_at random c q.number) (bit_at twin c q.number) (stores_seen names probes g i j (suc c)) a_same half,
-         one_in_w (x (suc c) (names.part g KA i 0)) (y (suc c) (names.part g KA i 0)) (x c (names.part g KB j 0)) (y c (names.part g KB j 0)) (bit_at random c q.number) (bit_at twin c q.number) (stores_seen names probes g i j (suc c)) a_same half))
-      (cases_Bool (has (known (sights_of names probes) A T (suc c)) j))
+        bit ∙ ap (xor (bit_at random c q.number)) (change_one names probes A T x y c g (min i j) (max i j) i j (ordered i j ne) p1 out_j ∙
+        ap₂ (λ next last. half_change next last (stores_seen names probes g i j (suc c)) (x (suc c) (names.part g KA i 0)) (x c (names.part g KB j 0)) (y c (names.part g KB j 0))) p (ne_eqb (suc c) T (λ e. omega arith))) in (
+          one_in_u (x (suc c) (names.part g KA i 0)) (y (suc c) (names.part g KA i 0)) (x c (names.part g KB j 0)) (y c (names.part g KB j 0)) (bit_at random c q.number) (bit_at twin c q.number) (stores_seen names probes g i j (suc c)) a_same half,
+          one_in_w (x (suc c) (names.part g KA i 0)) (y (suc c) (names.part g KA i 0)) (x c (names.part g KB j 0)) (y c (names.part g KB j 0)) (bit_at random c q.number) (bit_at twin c q.number) (stores_seen names probes g i j (suc c)) a_same half,
+        ))
+        (cases_Bool (has (known (sights_of names probes) A T (suc c)) j));
   }

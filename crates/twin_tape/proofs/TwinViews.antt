@@ -48,8 +48,8 @@ pair_is i j h o lt (inl e) = let a = e.0 in let b = e.1 in (omega arith, omega a
 pair_is i j h o lt (inr e) = let a = e.0 in let b = e.1 in (omega arith, omega arith)
 
 module _ (net : PlainNet) (names : Names) (d : ℕ) (hpc2 : IsNetwork net names d) (ranked : Ranked net) (probes : List Probe) (A : List ℕ) (T : ℕ) (power : List Bool) (first second random twin : List Row)
-  (is_twin : IsTwin net names probes A T power first second random twin)
-  (same_in : (t n : ℕ) → t < T → n < length (roles net) → sees (known (sights_of names probes) A T 0) (role_at net n) ≡ true → bit_at first t n ≡ bit_at second t n) where
+    (is_twin : IsTwin net names probes A T power first second random twin)
+    (same_in : (t n : ℕ) → t < T → n < length (roles net) → sees (known (sights_of names probes) A T 0) (role_at net n) ≡ true → bit_at first t n ≡ bit_at second t n) where
   abbrev x : ℕ → ℕ → Bool
   x = bit_with net power first random
 
@@ -67,9 +67,10 @@ module _ (net : PlainNet) (names : Names) (d : ℕ) (hpc2 : IsNetwork net names 
 
   -- the sight of the m-th probe
   at_probe : (m : ℕ) (label : Label) → m < length probes → names.label (slice_index_or probes m nil_probe).wire ≡ label → At sights m (sight label (slice_index_or probes m nil_probe).cycle)
-  at_probe m label h is =
-      (subst (λ n. m < n) (sym (length_map (λ probe. sight (names.label probe.wire) probe.cycle) probes)) h,
-       map_at (λ probe. sight (names.label probe.wire) probe.cycle) probes m nil_probe Nobody h ∙ ap (λ l. sight l (slice_index_or probes m nil_probe).cycle) is)
+  at_probe m label h is = (
+    subst (λ n. m < n) (sym (length_map (λ probe. sight (names.label probe.wire) probe.cycle) probes)) h,
+    map_at (λ probe. sight (names.label probe.wire) probe.cycle) probes m nil_probe Nobody h ∙ ap (λ l. sight l (slice_index_or probes m nil_probe).cycle) is,
+  )
 
   ties : Ties net names d hpc2 ranked T power first second random twin P
   ties = twin_ties net names d hpc2 ranked probes A T power first second random twin is_twin same_in
@@ -105,9 +106,9 @@ module _ (net : PlainNet) (names : Names) (d : ℕ) (hpc2 : IsNetwork net names 
       let pair = pair_is i j h o lt splits in
       let sees_it : Inner g (min h o) (max h o) (suc t) h ≡ Inner g i j (suc t) h = ap₂ (λ a b. Inner g a b (suc t) h) pair.0 pair.1 in
       let other : (label : Label) → names.label p.wire ≡ label → sight label (suc t) ≡ Inner g (min h o) (max h o) (suc t) h → (names.label (slice_index_or probes m nil_probe).wire ≢ label) → Prim.⊥ = λ label is looks differs.
-          let at' = at_probe n label found.1 is in
-          no_other sights A T (suc t) m n g i j h o h o le (λ e. omega arith) splits splits at out
-          (λ e. differs (ap (λ k. names.label (slice_index_or probes k nil_probe).wire) e ∙ is)) (at'.0, at'.1 ∙ ap (sight label) cycle ∙ looks ∙ sees_it) in
+      let at' = at_probe n label found.1 is in
+      no_other sights A T (suc t) m n g i j h o h o le (λ e. omega arith) splits splits at out
+      (λ e. differs (ap (λ k. names.label (slice_index_or probes k nil_probe).wire) e ∙ is)) (at'.0, at'.1 ∙ ap (sight label) cycle ∙ looks ∙ sees_it) in
       ⊎_elim
       (λ v. other (Part g KV h o) (ap names.label (eqb-true p.wire (names.part g KV h o) v) ∙ (there KV h o fits).1) refl not_v)
       (λ wx. other (Part g KWx h o) (ap names.label (eqb-true p.wire (names.part g KWx h o) wx) ∙ (there KWx h o fits).1) refl not_wx)
@@ -122,8 +123,8 @@ module _ (net : PlainNet) (names : Names) (d : ℕ) (hpc2 : IsNetwork net names 
       ⊎_elim
       (λ (in_o : P (suc t) o). let both = both_from (known sights A T (suc t)) i j h o splits in_h in_o in change_none names probes A T x y t g i j both.0 both.1)
       (λ out. change_one names probes A T x y t g i j h o splits in_h out ∙
-        ap₂ (λ next probed. half_change next (nat_eq (suc t) T) probed (x (suc t) (names.part g KA h 0)) (x t (names.part g KB o 0)) (y t (names.part g KB o 0)))
-        (not_later sights A T (suc t) m g i j h o le ne splits at out) (unstored m t g i j h o le small there fits lt splits at not_v not_wx out))
+      ap₂ (λ next probed. half_change next (nat_eq (suc t) T) probed (x (suc t) (names.part g KA h 0)) (x t (names.part g KB o 0)) (y t (names.part g KB o 0)))
+      (not_later sights A T (suc t) m g i j h o le ne splits at out) (unstored m t g i j h o le small there fits lt splits at not_v not_wx out))
       (cases_Bool (has (known sights A T (suc t)) o))
 
   same_random : (t n g i j : ℕ) → t < T → n < (random_width net) → names.gadget_of n ≡ g → names.small_of n ≡ i → names.great_of n ≡ j → change names probes A T x y t g i j ≡ false → bit_at random t n ≡ bit_at twin t n
@@ -145,20 +146,20 @@ module _ (net : PlainNet) (names : Names) (d : ℕ) (hpc2 : IsNetwork net names 
       let in_h : P (suc t) h = known_home sights A T (suc t) m g (min h o) (max h o) h le at in
       let splits = ordered h o fits.0 in
       let bit = is_twin t q.number (omega arith) q.small ∙
-          ap (λ k. xor (bit_at random t q.number) (change names probes A T x y t k (names.small_of q.number) (names.great_of q.number))) q.of_gadget ∙
-          ap₂ (λ a b. xor (bit_at random t q.number) (change names probes A T x y t g a b)) q.of_small q.of_great in
+      ap (λ k. xor (bit_at random t q.number) (change names probes A T x y t k (names.small_of q.number) (names.great_of q.number))) q.of_gadget ∙
+      ap₂ (λ a b. xor (bit_at random t q.number) (change names probes A T x y t g a b)) q.of_small q.of_great in
       v_is net names d hpc2 ranked power first random t g h o there fits q ∙
       ⊎_elim
       (λ (in_o : P (suc t) o).
-        let both = both_from (known sights A T (suc t)) (min h o) (max h o) h o splits in_h in_o in
-        let b_same : x t B ≡ y t B = alike net names d hpc2 ranked T power first second random twin P ties t (omega arith) B (there KB o 0 (fits.2, refl)).0
-            (part_sees net names d hpc2 ranked (P t) g o 0 KB there (fits.2, refl) (known_older sights A T t o in_o)) in
-        ap₂ xor b_same (no_change (bit_at random t q.number) (bit_at twin t q.number) (bit ∙ ap (xor (bit_at random t q.number)) (change_none names probes A T x y t g (min h o) (max h o) both.0 both.1))))
+      let both = both_from (known sights A T (suc t)) (min h o) (max h o) h o splits in_h in_o in
+      let b_same : x t B ≡ y t B = alike net names d hpc2 ranked T power first second random twin P ties t (omega arith) B (there KB o 0 (fits.2, refl)).0
+      (part_sees net names d hpc2 ranked (P t) g o 0 KB there (fits.2, refl) (known_older sights A T t o in_o)) in
+      ap₂ xor b_same (no_change (bit_at random t q.number) (bit_at twin t q.number) (bit ∙ ap (xor (bit_at random t q.number)) (change_none names probes A T x y t g (min h o) (max h o) both.0 both.1))))
       (λ out.
-        let half = change_one names probes A T x y t g (min h o) (max h o) h o splits in_h out ∙
-            ap₂ (λ next probed. half_change next (nat_eq (suc t) T) probed (x (suc t) (names.part g KA h 0)) (x t B) (y t B))
-            (not_later sights A T (suc t) m g (min h o) (max h o) h o le ne splits at out) probed in
-        one_in_v (x (suc t) (names.part g KA h 0)) (x t B) (y t B) (bit_at random t q.number) (bit_at twin t q.number) (nat_eq (suc t) T) (bit ∙ ap (xor (bit_at random t q.number)) half))
+      let half = change_one names probes A T x y t g (min h o) (max h o) h o splits in_h out ∙
+      ap₂ (λ next probed. half_change next (nat_eq (suc t) T) probed (x (suc t) (names.part g KA h 0)) (x t B) (y t B))
+      (not_later sights A T (suc t) m g (min h o) (max h o) h o le ne splits at out) probed in
+      one_in_v (x (suc t) (names.part g KA h 0)) (x t B) (y t B) (bit_at random t q.number) (bit_at twin t q.number) (nat_eq (suc t) T) (bit ∙ ap (xor (bit_at random t q.number)) half))
       (cases_Bool (has (known sights A T (suc t)) o)) ∙
       sym (v_is net names d hpc2 ranked power second twin t g h o there fits q)
 
@@ -202,8 +203,8 @@ module _ (net : PlainNet) (names : Names) (d : ℕ) (hpc2 : IsNetwork net names 
       let p = slice_index_or probes m nil_probe in
       let cycle : nat_eq p.cycle c ≡ true = eq-eqb p.cycle c is_c in
       let wire : (nat_eq p.wire (names.part g KV h o) || nat_eq p.wire (names.part g KWx h o)) ≡ true =
-          ⊎_elim (λ e. or_left (nat_eq p.wire (names.part g KV h o)) (nat_eq p.wire (names.part g KWx h o)) (eq-eqb p.wire (names.part g KV h o) (is_w ∙ e)))
-          (λ e. or_right (nat_eq p.wire (names.part g KV h o)) (nat_eq p.wire (names.part g KWx h o)) (eq-eqb p.wire (names.part g KWx h o) (is_w ∙ e))) one in
+      ⊎_elim (λ e. or_left (nat_eq p.wire (names.part g KV h o)) (nat_eq p.wire (names.part g KWx h o)) (eq-eqb p.wire (names.part g KV h o) (is_w ∙ e)))
+      (λ e. or_right (nat_eq p.wire (names.part g KV h o)) (nat_eq p.wire (names.part g KWx h o)) (eq-eqb p.wire (names.part g KWx h o) (is_w ∙ e))) one in
       list_any_from (λ probe. nat_eq probe.cycle c && (nat_eq probe.wire (names.part g KV h o) || nat_eq probe.wire (names.part g KWx h o))) probes m nil_probe small (ap₂ (λ a b. a && b) cycle wire)
 
   part_shows : (m n w c g i j : ℕ) (kind : Kind) → m < length probes → w < length net.wires → c < T → names.label w ≡ Part g kind i j → At sights m (sight (Part g kind i j) c) →
@@ -212,7 +213,7 @@ module _ (net : PlainNet) (names : Names) (d : ℕ) (hpc2 : IsNetwork net names 
       let k = kept net names d hpc2 w g i j KClk inside is in
       one_shows n c w k.0 (f_wire k.0) k.1 (λ u h. read_wire k.0 u h)
       (λ m. let v_in : k.0 < length net.wires = hpc2.inside w k.0 inside (subst (λ D. reads_ever D k.0 ≡ true) (sym k.1) (eq-eqb k.0 k.0 refl)) in
-        must_shows m c k.0 below v_in (subst (Sees (P c)) (sym k.2) tt))
+      must_shows m c k.0 below v_in (subst (Sees (P c)) (sym k.2) tt))
   part_shows m n w c g i j KA small inside below is at is_w is_c fits part there = must_shows n c w below inside (subst (Sees (P c)) (sym is) (known_begun sights A T c i (begun_plain sights A m i at)))
   part_shows m n w c g i j KB small inside below is at is_w is_c fits part there = must_shows n c w below inside (subst (Sees (P c)) (sym is) (known_begun sights A T c i (begun_plain sights A m i at)))
   part_shows m n w c g i j KR small inside below is at is_w is_c fits part there =
@@ -220,8 +221,8 @@ module _ (net : PlainNet) (names : Names) (d : ℕ) (hpc2 : IsNetwork net names 
       let label_m : names.label (slice_index_or probes m nil_probe).wire ≡ Part g KR i j = ap names.label is_w ∙ is in
       one_shows n c w q.wire (f_wire q.wire) (ap (source net) part ∙ q.read) (λ u h. read_wire q.wire u h)
       (λ k. random_shows k c q.number q.wire q.inside q.driven
-        (same_random c q.number g i j below q.small q.of_gadget q.of_small q.of_great
-        (change_out m c g i j i j below small there ((λ e. absurd (omega arith)), omega arith, fits.1) fits.0 (inl (refl, refl)) at (λ e. cc) (λ e. cc))))
+      (same_random c q.number g i j below q.small q.of_gadget q.of_small q.of_great
+      (change_out m c g i j i j below small there ((λ e. absurd (omega arith)), omega arith, fits.1) fits.0 (inl (refl, refl)) at (λ e. cc) (λ e. cc))))
   part_shows m n w c g i j KRr small inside below is at is_w is_c fits part there =
       let k = there_kept net names d hpc2 ranked g there KRr i j fits in
       let label_m : names.label (slice_index_or probes m nil_probe).wire ≡ Part g KRr i j = ap names.label is_w ∙ is in
@@ -239,9 +240,9 @@ module _ (net : PlainNet) (names : Names) (d : ℕ) (hpc2 : IsNetwork net names 
       (λ u h. read_two B (names.part g KR (min i j) (max i j)) u h)
       (λ k. must_shows k c B below (there KB j 0 (fits.2, refl)).0 (part_sees net names d hpc2 ranked (P c) g j 0 KB there (fits.2, refl) (known_older sights A T c j in_j)))
       (λ k. one_shows k c (names.part g KR (min i j) (max i j)) q.wire (f_wire q.wire) q.read (λ u h. read_wire q.wire u h)
-        (λ k. random_shows k c q.number q.wire q.inside q.driven
-        (same_random c q.number g (min i j) (max i j) below q.small q.of_gadget q.of_small q.of_great
-        (change_out m c g (min i j) (max i j) j i below small there ((λ e. fits.0 (sym e)), fits.2, fits.1) lt (swapped (min i j) (max i j) i j (ordered i j fits.0)) at (λ e. cc) (λ e. cc)))))
+      (λ k. random_shows k c q.number q.wire q.inside q.driven
+      (same_random c q.number g (min i j) (max i j) below q.small q.of_gadget q.of_small q.of_great
+      (change_out m c g (min i j) (max i j) j i below small there ((λ e. fits.0 (sym e)), fits.2, fits.1) lt (swapped (min i j) (max i j) i j (ordered i j fits.0)) at (λ e. cc) (λ e. cc)))))
   part_shows m n w c g i j KV small inside below is at is_w is_c fits part there =
       let k = there_kept net names d hpc2 ranked g there KV i j fits in
       register_shows n c k.0 w (f_wire (names.part g KVx i j)) (ap (source net) part ∙ k.1)

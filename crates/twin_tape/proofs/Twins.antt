@@ -29,7 +29,10 @@ pairs_same net power probes T is_first is_second G causal o equal =
 
 pub pini_from_twins : (net : PlainNet) (d : ℕ) → HasTwins net d → Pini net d
 pini_from_twins net d twins T probes A inside distinct low few =
-    let found = twins T probes A inside distinct low few in
-    (found.0, found.1, λ power first second is_first is_second agree o.
-    let twin = found.2 power first second is_first is_second agree in
-    seen_same net power first second probes A T twin.0 twin.1 twin.2 o)
+    let found = twins T probes A inside distinct low few in (
+      found.0,
+      found.1,
+      λ power first second is_first is_second agree o.
+          let twin = found.2 power first second is_first is_second agree in
+          seen_same net power first second probes A T twin.0 twin.1 twin.2 o,
+    )

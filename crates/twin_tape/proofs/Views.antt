@@ -75,8 +75,12 @@ module _ (net : PlainNet) where
   leads_step : (n w u v : ℕ) → Leads n w u → ((u == v) || reads net u v) ≡ true → Leads (suc n) w v
   leads_step n w u v leads e =
       ⊎_elim (λ same. (leads.0, let le = leads.1 in omega arith, leads.2, leads.3 ∙ eqb-true u v same))
-      (λ read. (leads.0 ++ v ∷ [], let le = leads.1 in let long = long_more v leads.0 in omega arith,
-        chain_more (reads net) w v leads.0 leads.2 (subst (λ k. reads net k v ≡ true) (sym leads.3) read), last_more w v leads.0))
+      (λ read. (
+        leads.0 ++ v ∷ [],
+        let le = leads.1 in let long = long_more v leads.0 in omega arith,
+        chain_more (reads net) w v leads.0 leads.2 (subst (λ k. reads net k v ≡ true) (sym leads.3) read),
+        last_more w v leads.0,
+      ))
       (or_cases (u == v) (reads net u v) e)
 
   pub all_within : (w n : ℕ) → AllByRecursion (λ v. (v < length net.wires) × Leads n w v) (within net w n)
@@ -120,7 +124,7 @@ module _ (net : PlainNet) (ranked : Ranked net) (f g : ℕ → Bool) where
       same_map f g (cone net w)
       (all_map (λ v. P v × (cones.is_source (driver net v) ≡ true)) (λ v. f v ≡ g v)
       (λ v h.
-        let leads = h.0.1 in
-        subst (λ s. f s ≡ g s) leads.3
-        (seen leads.0 leads.1 leads.2 (subst (λ s. s < length net.wires) (sym leads.3) h.0.0)
-        (subst (λ s. is_source (source net s) ≡ true) (sym leads.3) (sym (source_is net (driver net v)) ∙ h.1)))) (cone net w) all)
+      let leads = h.0.1 in
+      subst (λ s. f s ≡ g s) leads.3
+      (seen leads.0 leads.1 leads.2 (subst (λ s. s < length net.wires) (sym leads.3) h.0.0)
+      (subst (λ s. is_source (source net s) ≡ true) (sym leads.3) (sym (source_is net (driver net v)) ∙ h.1)))) (cone net w) all)

@@ -25,8 +25,18 @@ pub record IsCausal (R T : ℕ) (F : List Row → List Row) : Type 0 where
 abbrev pub SumsStay : Type 0
 SumsStay = (R T : ℕ) (F : List Row → List Row) → IsCausal R T F → (f : List Row → ℕ) → sum_by (λ tape. f (F tape)) (tapes R T) ≡ sum_by f (tapes R T)
 
-abbrev pub CountsStay : Type 0
-CountsStay = (R T : ℕ) (F : List Row → List Row) → IsCausal R T F → (p : List Row → Bool) → count_by (λ tape. p (F tape)) (tapes R T) ≡ count_by p (tapes R T)
+-- Two maps of tapes that undo each other.
+pub record IsInverse (R T : ℕ) (F G : List Row → List Row) : Type 0 where
+  pub to : (tape : List Row) → IsTape R T tape → IsTape R T (F tape)
+  pub back : (tape : List Row) → IsTape R T tape → IsTape R T (G tape)
+  pub undone : (tape : List Row) → IsTape R T tape → G (F tape) ≡ tape
+  pub redone : (tape : List Row) → IsTape R T tape → F (G tape) ≡ tape
+
+-- Sets of tapes in bijection have the same count, since each tape counts once.
+abbrev pub BijectedCounts : Type 0
+BijectedCounts =
+    (R T : ℕ) (F G : List Row → List Row) → IsInverse R T F G → (p q : List Row → Bool) → ((tape : List Row) → IsTape R T tape → p tape ≡ q (F tape)) →
+    count_by p (tapes R T) ≡ count_by q (tapes R T)
 
 -- For each choice of probes and indices there are indices B such that inputs that agree on A and B have a map of random tapes that is
 -- causal and keeps the observation.

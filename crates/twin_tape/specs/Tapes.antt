@@ -32,6 +32,12 @@ same_row [] (b ∷ bs) = false
 same_row (a ∷ as') [] = false
 same_row (a ∷ as') (b ∷ bs) = not (xor a b) && same_row as' bs
 
+abbrev pub same_tape : List Row → List Row → Bool
+same_tape [] [] = true
+same_tape [] (row ∷ tape) = false
+same_tape (row ∷ tape) [] = false
+same_tape (a ∷ as') (b ∷ bs) = same_row a b && same_tape as' bs
+
 -- A shared bit of the original: the name of what is shared (empty for the registers' initial values), and the place in its ports.
 abbrev pub Secret : Type 0
 Secret = List ℕ × ℕ

@@ -3,4 +3,7 @@
 
 mod laws;
 
-pub use laws::{sums_stay, twins_isolate};
+pub use laws::{
+    bijected_counts, each_tape_once, isolation_blinds, joined_and_split, split_and_joined,
+    sums_stay, twins_isolate,
+};
