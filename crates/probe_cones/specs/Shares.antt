@@ -1,6 +1,6 @@
 -- What the name of a port says of its bits: by `HasRole` of agm_net, as functions. The law `shares_are_named` ties the two.
 use Rattle.std.specs.Prelude.{◌==◌, ◌^◌, ◌∷◌, ℕ, Bool, false, not, ◌&&◌, ◌||◌, cond, nat_lt, eqb, List, [], Option, Some, None, codes, drop, length}
-use Rattle.std.specs.List.{list_all, starts_with, before_first, after_first}
+use Rattle.std.specs.List.{list_all, starts_with}
 use Rattle.std.specs.Option.{option_map, option_map_or}
 use Rattle.std.specs.Char.{is_digit}
 use Rattle.std.specs.Str.Parse.{digits_value}
@@ -19,11 +19,20 @@ abbrev pub with_text : Option ℕ → List ℕ → Option (ℕ × List ℕ)
 with_text index [] = None
 with_text index (c ∷ cs) = option_map (λ i. (i, c ∷ cs)) index
 
+-- what stands before the first `_`, and behind it
+abbrev pub before_line : List ℕ → List ℕ
+before_line [] = []
+before_line (c ∷ cs) = cond (c == 95) [] (c ∷ before_line cs)
+
+abbrev pub behind_line : List ℕ → List ℕ
+behind_line [] = []
+behind_line (c ∷ cs) = cond (c == 95) cs (behind_line cs)
+
 -- The share index of a port's name, and what is shared: x of `agm_s<i>_x`, and nothing more of `agm_q_s<i>`. Other names are of no share.
 abbrev pub share_of : List ℕ → Option (ℕ × List ℕ)
 share_of name =
     cond (starts_with eqb name (codes "agm_s"))
-    (with_text (index_of (before_first (λ b. b == 95) (drop 5 name))) (after_first (λ b. b == 95) (drop 5 name)))
+    (with_text (index_of (before_line (drop 5 name))) (behind_line (drop 5 name)))
     (cond (starts_with eqb name (codes "agm_q_s")) (option_map (λ i. (i, [])) (index_of (drop 7 name))) None)
 
 abbrev pub is_share : ℕ → List ℕ → Bool
