@@ -17,3 +17,7 @@ pub mod ShareIndex
 pub mod Traces
 pub mod Wires
 pub mod Worlds
+pub mod NameCuts
+pub mod OnePart
+pub mod OneLabel
+pub mod OneWire

@@ -13,4 +13,5 @@ pub mod Writable
 pub mod PlainForm
 pub mod Small
 pub mod Label
+pub mod Network
 pub mod Renumbered

@@ -3,6 +3,7 @@
 
 mod checks;
 mod expr;
+mod label;
 mod laws;
 mod mark;
 mod net;
@@ -12,6 +13,7 @@ mod refusals;
 mod roles;
 
 pub use expr::{Equation, Expr, Register, is_within, not_of, xor_of};
+pub use label::{Label, Part, PartKind, one_label, one_part, one_reader};
 pub use laws::{
     drivers_read_alike, drivers_read_wires, each_wire_is_driven, keeps_drivers,
     loops_have_no_ranks, one_driver, one_trace, run_is_trace, runs_look_back, trace_has_bits,

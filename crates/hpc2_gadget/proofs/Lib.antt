@@ -3,3 +3,4 @@ pub mod Made
 pub mod Sums
 pub mod Rows
 pub mod Sizes
+mod Numbers

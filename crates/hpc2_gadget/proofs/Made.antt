@@ -3,7 +3,8 @@ use Rattle.std.proofs.Common.{◌≡◌, ◌<◌, ◌≤◌, ◌+◌, ◌-◌, �
 use Rattle.std.proofs.lemmas.List.{get_or-set_other, get_or-set_same, length-set}
 use Rattle.std.proofs.lemmas.Bool.{cases_eq, cases_lt}
 use Rattle.std.proofs.lemmas.Nat.{div-mul-add}
-use Rattle.agm_net.specs.Label.{PartKind, part_name, part_text, IsOfShare}
+use Rattle.agm_net.specs.Label.{part_name, part_text, is_share_kind, CountsAsShare}
+use Rattle.agm_net.specs.declared.label.PartKind.{PartKind}
 use Rattle.share_wiring.specs.Wiring.{Wiring, MayBeShare, IsSharing, names, name_at, share}
 use Rattle.share_wiring.specs.Adds.{Extends, Stays, AddsFact}
 use Rattle.share_wiring.specs.Built.{IsNewPart}
@@ -11,7 +12,6 @@ use Rattle.share_wiring.specs.declared.gate.Source.{Source}
 use Rattle.share_wiring.specs.declared.gate.Wire.{Wire}
 use Rattle.share_wiring.proofs.Grown.{names_append}
 use Rattle.share_wiring.proofs.Runs.{name_back, extends_refl, extends_trans}
-use Rattle.hpc2_gadget.specs.Kinds.{is_of_share}
 use Rattle.hpc2_gadget.specs.Order.{rank, IsIndex, Below}
 use Rattle.hpc2_gadget.specs.Grown.{Grown, Makes, Fills, triangle}
 use Rattle.hpc2_gadget.proofs.PartNames.{part_new, below_part, below_more, part_writable, part_of_share}
@@ -21,14 +21,14 @@ use Rattle.share_wiring.specs.Cells.{AreCells, AddsCells}
 pub new_part : (net : Wiring) (n g : ℕ) (kind : PartKind) (i j : ℕ) (name : List ℕ) → name ≡ part_name n g kind i j → (2 ≤ n) × (n ≤ 16) → g < 2 ^ 32 → g < net.gadgets → IsIndex n kind i j
     → Below n g (rank n kind i j) (names net.wires) → IsNewPart net name
 new_part net n g kind i j name is size small begun index below =
-    let few : n < 2 ^ 32 = (let le = size.1 in omega arith) in
+    let some : 1 ≤ n = (let le = size.0 in omega arith) in
     subst (IsNewPart net) (sym is)
-    (record { new = part_new n g kind i j (names net.wires) index below; written = part_writable n g kind i j few small index; of_gadget = (g, part_text n kind i j, begun, refl) })
+    (record { new = part_new n g kind i j (names net.wires) index below; written = part_writable n g kind i j some small index; of_gadget = (g, part_text n kind i j, begun, refl) })
 
 pub part_grown : (old new : Wiring) (n g : ℕ) (kind : PartKind) (i j : ℕ) (name : List ℕ) (source : Source) → name ≡ part_name n g kind i j → (2 ≤ n) × (n ≤ 16) → IsIndex n kind i j
     → Below n g (rank n kind i j) (names old.wires) → Extends old new → Stays old new → AddsCells old new → new.wires ≡ old.wires ++ (record { name = name; source = source }) ∷ [] → Grown n g (rank n kind i j + 1) 0 old new
 part_grown old new n g kind i j name source is size index below extends stays cells made =
-    let few : n < 2 ^ 32 = (let le = size.1 in omega arith) in
+    let some : 1 ≤ n = (let le = size.0 in omega arith) in
     let given = stays.given in
     let all : names new.wires ≡ names old.wires ++ part_name n g kind i j ∷ [] =
     ap names made ∙ (names_append old.wires ((record { name = name; source = source }) ∷ []) ∙ ap (λ a. names old.wires ++ a ∷ []) is) in
@@ -38,11 +38,11 @@ part_grown old new n g kind i j name source is size index below extends stays ce
       gadgets = stays.gadgets;
       given = omega arith;
       cells = cells;
-      below = subst (Below n g (rank n kind i j + 1)) (sym all) (below_part n g kind i j (names old.wires) few index below);
+      below = subst (Below n g (rank n kind i j + 1)) (sym all) (below_part n g kind i j (names old.wires) some index below);
     }
 
 pub part_shared : (old new : Wiring) (n g : ℕ) (kind : PartKind) (i j : ℕ) (name : List ℕ) (source : Source) (w : ℕ) → name ≡ part_name n g kind i j → (2 ≤ n) × (n ≤ 16) → g < 2 ^ 32 → IsIndex n kind i j
-    → new.wires ≡ old.wires ++ (record { name = name; source = source }) ∷ [] → w ≡ length old.wires → IsTrue (is_of_share kind) → MayBeShare new.wires n i w
+    → new.wires ≡ old.wires ++ (record { name = name; source = source }) ∷ [] → w ≡ length old.wires → IsTrue (is_share_kind kind) → MayBeShare new.wires n i w
 part_shared old new n g kind i j name source w is size small index made at shared =
     let more : List Wire = (record { name = name; source = source }) ∷ [] in
     let len = length-append old.wires more in
@@ -53,7 +53,7 @@ part_shared old new n g kind i j name source w is size small index made at share
     let named : name_at new.wires w ≡ part_name n g kind i j = ap (λ ws. name_at ws w) made ∙ here in
     record {
       within = omega arith;
-      named = inr (λ one. (let no_one = one in omega arith), subst (IsOfShare n i) (sym named) (part_of_share n g kind i j small index shared));
+      named = inr (λ one. (let no_one = one in omega arith), subst (CountsAsShare (n - 1) i) (sym named) (part_of_share n g kind i j (omega arith) small index shared));
     }
 
 -- steps in a row

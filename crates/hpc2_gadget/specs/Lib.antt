@@ -1,4 +1,3 @@
-pub mod Kinds
 pub mod Order
 pub mod Product
 pub mod Grown

@@ -1,7 +1,9 @@
 -- The order in which the parts of a gadget are made, by which their names are new.
 use Rattle.std.specs.Prelude.{◌≡◌, ◌<◌, ◌+◌, ◌-◌, ◌*◌, ◌/◌, ◌%◌, ℕ, List, max, min}
 use Rattle.std.specs.List.{AllByRecursion}
-use Rattle.agm_net.specs.Label.{PartKind, k_clk, k_a, k_b, k_r, k_rr, k_bb, k_vx, k_v, k_na, k_ux, k_u, k_wx, k_w, k_mx, k_m, k_s, k_c, part_name}
+use Rattle.agm_net.specs.Label.{part_name, HasNumbers}
+use Rattle.agm_net.specs.declared.label.PartKind.{PartKind}
+use Rattle.agm_net.specs.declared.label.PartKind.TheVariants.{Clk, A, B, R, Rr, Bb, Vx, V, Na, Ux, U, Wx, W, Mx, M, S, C}
 
 -- 1 where i is greater than j
 abbrev pub turn : ℕ → ℕ → ℕ
@@ -24,32 +26,27 @@ last_partner n i = n - 1 - (1 - min 1 (n - 1 - i))
 
 -- the number of a part of a gadget on n shares
 abbrev pub rank : ℕ → PartKind → ℕ → ℕ → ℕ
-rank n k_clk i j = 0
-rank n k_a i j = 1 + i
-rank n k_b i j = 17 + i
-rank n k_na i j = 33 + i
-rank n k_bb i j = 49 + i * 3
-rank n k_mx i j = 50 + i * 3
-rank n k_m i j = 51 + i * 3
-rank n k_r i j = cell i j
-rank n k_rr i j = cell i j + 1
-rank n k_vx i j = cell i j + (2 + turn i j * 6)
-rank n k_v i j = cell i j + (3 + turn i j * 6)
-rank n k_ux i j = cell i j + (4 + turn i j * 6)
-rank n k_u i j = cell i j + (5 + turn i j * 6)
-rank n k_wx i j = cell i j + (6 + turn i j * 6)
-rank n k_w i j = cell i j + (7 + turn i j * 6)
-rank n k_s i j = cell i (partner i ((j - 1) / 2)) + (14 + (turn i (partner i ((j - 1) / 2)) * 2 + (j - 1) % 2))
-rank n k_c i j = cell i (last_partner n i) + (15 + turn i (last_partner n i) * 2)
-
--- the numbers of a random part are those of a pair
-abbrev pub PairFits : ℕ → PartKind → ℕ → ℕ → Type 0
-PairFits n k_r i j = (i < j) × (j < n)
-PairFits n _ i j = Unit {0}
+rank n Clk i j = 0
+rank n A i j = 1 + i
+rank n B i j = 17 + i
+rank n Na i j = 33 + i
+rank n Bb i j = 49 + i * 3
+rank n Mx i j = 50 + i * 3
+rank n M i j = 51 + i * 3
+rank n R i j = cell i j
+rank n Rr i j = cell i j + 1
+rank n Vx i j = cell i j + (2 + turn i j * 6)
+rank n V i j = cell i j + (3 + turn i j * 6)
+rank n Ux i j = cell i j + (4 + turn i j * 6)
+rank n U i j = cell i j + (5 + turn i j * 6)
+rank n Wx i j = cell i j + (6 + turn i j * 6)
+rank n W i j = cell i j + (7 + turn i j * 6)
+rank n S i j = cell i (partner i ((j - 1) / 2)) + (14 + (turn i (partner i ((j - 1) / 2)) * 2 + (j - 1) % 2))
+rank n C i j = cell i (last_partner n i) + (15 + turn i (last_partner n i) * 2)
 
 -- the numbers that parts have
 abbrev pub IsIndex : ℕ → PartKind → ℕ → ℕ → Type 0
-IsIndex n kind i j = (i < 32) × (j < 32) × PairFits n kind i j
+IsIndex n kind i j = (i < 32) × (j < 32) × HasNumbers (n - 1) kind i j
 
 -- among these names each part of gadget g has a number below r
 abbrev pub Below : ℕ → ℕ → ℕ → List (List ℕ) → Type 0

@@ -3,33 +3,33 @@
 ghost use Rattle.std.specs.Prelude.{◌≡◌, ◌<◌, ◌≤◌, ◌+◌, ◌-◌, ◌*◌, ◌/◌, ◌^◌, length, ℕ, IfOk, OnOk, IsTrue};
 ghost use Rattle.share_wiring.specs.Wiring.{IsSharing, names, share};
 ghost use Rattle.share_wiring.specs.Adds.{Extends, AddsFact, random_bits};
-ghost use Rattle.hpc2_gadget.specs.Kinds.{kind_of, is_of_share};
+ghost use Rattle.agm_net.specs.Label.{is_share_kind};
 ghost use Rattle.hpc2_gadget.specs.Order.{rank, IsIndex, Below};
 ghost use Rattle.hpc2_gadget.specs.Product.{SquareAt, SameAt, InverseAt, RowAt, RowsAt, Multiplies};
 ghost use Rattle.hpc2_gadget.specs.Grown.{Grown, Makes, Fills, triangle};
 ghost use Rattle.share_wiring.specs.Cells.{AddsCells};
 
-use crate::kind::Kind;
 use crate::names::Place;
 use crate::parts::{Side, gate, pair, square};
 use agm_bits::Memory;
+use agm_net::PartKind;
 use share_wiring::{Builder, Gate, Sharing};
 
 // Parts of one kind that have the bits of a sharing.
 fn copies<const S: usize>(
     builder: &mut Builder,
     place: Place,
-    kind: Kind,
+    kind: PartKind,
     x: &Sharing<S>,
 ) -> Result<Sharing<S>, Memory>
     requires begun { place.gadget < builder.old.gadgets }
     requires shares { place.shares ≡ S }
-    requires shared { IsTrue (is_of_share (kind_of kind)) }
-    requires order { (i : ℕ) → rank S (kind_of kind) i 0 ≡ rank S (kind_of kind) 0 0 + i }
-    requires index { (i : ℕ) → i < S → IsIndex S (kind_of kind) i 0 }
-    requires below { Below S place.gadget (rank S (kind_of kind) 0 0) (names builder.old.wires) }
+    requires shared { IsTrue (is_share_kind kind) }
+    requires order { (i : ℕ) → rank S kind i 0 ≡ rank S kind 0 0 + i }
+    requires index { (i : ℕ) → i < S → IsIndex S kind i 0 }
+    requires below { Below S place.gadget (rank S kind 0 0) (names builder.old.wires) }
     requires inside { IsSharing builder.old.wires S x.now.shares }
-    ensures grown { OnOk result (Grown S place.gadget (rank S (kind_of kind) 0 0 + S) 0 builder.old builder.new) }
+    ensures grown { OnOk result (Grown S place.gadget (rank S kind 0 0 + S) 0 builder.old builder.new) }
     ensures filled { IfOk result (λ z. Fills builder.old builder.new S S z.shares (λ cycles bits k w. SameAt cycles bits (share x.now.shares k) w)) }
 {
     let mut shares = [0usize; S];
@@ -55,7 +55,7 @@ fn inverses<const S: usize>(
 {
     let mut shares = [0usize; S];
     for i in 0..S {
-        let wire = gate(builder, place, Kind::Na, i, 0, Gate::Not(x.shares[i]))?;
+        let wire = gate(builder, place, PartKind::Na, i, 0, Gate::Not(x.shares[i]))?;
         shares[i] = wire;
     }
     Ok(Sharing { shares })
@@ -177,8 +177,8 @@ fn product<const S: usize>(
     ensures shares { IfOk result (λ c. IsSharing builder.new.wires S c.shares) }
     ensures product { IfOk result (λ c. AddsFact builder.old builder.new (λ cycles bits. Multiplies S cycles bits x.now.shares y.now.shares c.shares)) }
 {
-    let a = copies(builder, place, Kind::A, x)?;
-    let b = copies(builder, place, Kind::B, y)?;
+    let a = copies(builder, place, PartKind::A, x)?;
+    let b = copies(builder, place, PartKind::B, y)?;
     let inverse = inverses(builder, place, &a)?;
     let sums = squares(builder, place, &a, &b)?;
     let all = rows(builder, place, &a, &inverse, &b, &sums)?;
@@ -218,7 +218,14 @@ pub fn multiply<const S: usize>(
         shares: S,
         clock: builder.clock(),
     };
-    let clock = gate(builder, source, Kind::Clk, 0, 0, Gate::Same(source.clock))?;
+    let clock = gate(
+        builder,
+        source,
+        PartKind::Clk,
+        0,
+        0,
+        Gate::Same(source.clock),
+    )?;
     let place = Place {
         alloc,
         gadget,

@@ -2,7 +2,6 @@
 #![tactic(auto)]
 
 mod gadget;
-mod kind;
 mod names;
 mod parts;
 

@@ -3,11 +3,10 @@
 ghost use Rattle.std.specs.Prelude.{◌≡◌, ◌<◌, ◌≤◌, ◌+◌, ◌-◌, ◌*◌, ◌^◌, codes, IfOk};
 ghost use Rattle.agm_net.specs.Plain.{select_name};
 ghost use Rattle.agm_net.specs.Label.{gadget_name, numbered, paired, part_name as part_name_of, pair_number as pair_number_of, pairs_before};
-ghost use Rattle.hpc2_gadget.specs.Kinds.{kind_of};
 ghost use Rattle.hpc2_gadget.specs.Order.{IsIndex};
 
-use crate::kind::Kind;
 use agm_bits::{Memory, Name};
+use agm_net::PartKind;
 use std::alloc::Global;
 
 /// Which gadget is made, on how many shares, and its clock.
@@ -67,27 +66,27 @@ fn with_pair(place: Place, word: &str, i: usize, j: usize) -> Result<Name, Memor
 }
 
 /// The name of a part.
-pub fn part_name(place: Place, kind: Kind, i: usize, j: usize) -> Result<Name, Memory>
-    requires { IsIndex place.shares (kind_of kind) i j }
-    ensures { IfOk result (λ n. n ≡ part_name_of place.shares place.gadget (kind_of kind) i j) }
+pub fn part_name(place: Place, kind: PartKind, i: usize, j: usize) -> Result<Name, Memory>
+    requires { IsIndex place.shares kind i j }
+    ensures { IfOk result (λ n. n ≡ part_name_of place.shares place.gadget kind i j) }
 {
     match kind {
-        Kind::Clk => bare(place, "clk"),
-        Kind::A => with_index(place, "a", i),
-        Kind::B => with_index(place, "b", i),
-        Kind::R => with_index(place, "r", pair_number(place.shares, i, j)),
-        Kind::Rr => with_pair(place, "rr", i, j),
-        Kind::Bb => with_number(place, "bb", i),
-        Kind::Vx => with_pair(place, "vx", i, j),
-        Kind::V => with_pair(place, "v", i, j),
-        Kind::Na => with_number(place, "na", i),
-        Kind::Ux => with_pair(place, "ux", i, j),
-        Kind::U => with_pair(place, "u", i, j),
-        Kind::Wx => with_pair(place, "wx", i, j),
-        Kind::W => with_pair(place, "w", i, j),
-        Kind::Mx => with_number(place, "mx", i),
-        Kind::M => with_number(place, "m", i),
-        Kind::S => with_pair(place, "s", i, j),
-        Kind::C => with_index(place, "c", i),
+        PartKind::Clk => bare(place, "clk"),
+        PartKind::A => with_index(place, "a", i),
+        PartKind::B => with_index(place, "b", i),
+        PartKind::R => with_index(place, "r", pair_number(place.shares, i, j)),
+        PartKind::Rr => with_pair(place, "rr", i, j),
+        PartKind::Bb => with_number(place, "bb", i),
+        PartKind::Vx => with_pair(place, "vx", i, j),
+        PartKind::V => with_pair(place, "v", i, j),
+        PartKind::Na => with_number(place, "na", i),
+        PartKind::Ux => with_pair(place, "ux", i, j),
+        PartKind::U => with_pair(place, "u", i, j),
+        PartKind::Wx => with_pair(place, "wx", i, j),
+        PartKind::W => with_pair(place, "w", i, j),
+        PartKind::Mx => with_number(place, "mx", i),
+        PartKind::M => with_number(place, "m", i),
+        PartKind::S => with_pair(place, "s", i, j),
+        PartKind::C => with_index(place, "c", i),
     }
 }

@@ -2,19 +2,19 @@
 
 ghost use Rattle.std.specs.Prelude.{◌≡◌, ◌≢◌, ◌<◌, ◌≤◌, ◌+◌, ◌-◌, ◌*◌, length, ℕ, IfOk, OnOk, IsTrue};
 ghost use Rattle.agm_net.specs.Formula.{value, xor};
-ghost use Rattle.agm_net.specs.Label.{part_name as part_name_of, k_rr, k_r, k_vx, k_s};
+ghost use Rattle.agm_net.specs.Label.{part_name as part_name_of};
 ghost use Rattle.agm_net.specs.Small.{IsCell};
 ghost use Rattle.share_wiring.specs.Gates.{gate_formula, gate_below};
 ghost use Rattle.share_wiring.specs.Wiring.{MayBeShare, names};
 ghost use Rattle.share_wiring.specs.Adds.{Extends, AddsFact, random_bits};
-ghost use Rattle.hpc2_gadget.specs.Kinds.{kind_of, is_of_share};
+ghost use Rattle.agm_net.specs.Label.{is_share_kind};
 ghost use Rattle.hpc2_gadget.specs.Order.{rank, cell, turn, place_of as place_of_spec, IsIndex, Below};
 ghost use Rattle.hpc2_gadget.specs.Grown.{Grown};
 ghost use Rattle.hpc2_gadget.specs.Product.{SquareAt, HalvesAt, PairAt};
 
-use crate::kind::Kind;
 use crate::names::{Place, part_name};
 use agm_bits::Memory;
+use agm_net::PartKind;
 use share_wiring::{Builder, Gate};
 
 /// What the masked halves of a product read: the share of the first factor and its inverse, the share of the second, and the random
@@ -32,19 +32,19 @@ struct Crossing {
 pub fn gate(
     builder: &mut Builder,
     place: Place,
-    kind: Kind,
+    kind: PartKind,
     i: usize,
     j: usize,
     gate: Gate,
 ) -> Result<usize, Memory>
     requires begun { place.gadget < builder.old.gadgets }
-    requires index { IsIndex place.shares (kind_of kind) i j }
-    requires below { Below place.shares place.gadget (rank place.shares (kind_of kind) i j) (names builder.old.wires) }
+    requires index { IsIndex place.shares kind i j }
+    requires below { Below place.shares place.gadget (rank place.shares kind i j) (names builder.old.wires) }
     requires fits { IsTrue (gate_below gate (length builder.old.wires)) }
     requires cell { IsCell (gate_formula gate) }
-    ensures grown { OnOk result (Grown place.shares place.gadget (rank place.shares (kind_of kind) i j + 1) 0 builder.old builder.new) }
+    ensures grown { OnOk result (Grown place.shares place.gadget (rank place.shares kind i j + 1) 0 builder.old builder.new) }
     ensures within { IfOk result (λ w. w < length builder.new.wires) }
-    ensures shared { IfOk result (λ w. IsTrue (is_of_share (kind_of kind)) → MayBeShare builder.new.wires place.shares i w) }
+    ensures shared { IfOk result (λ w. IsTrue (is_share_kind kind) → MayBeShare builder.new.wires place.shares i w) }
     ensures value { IfOk result (λ w. AddsFact builder.old builder.new (λ cycles bits. (t : ℕ) → t < cycles → bits t w ≡ value (bits t) (gate_formula gate))) }
 {
     let name = part_name(place, kind, i, j)?;
@@ -57,19 +57,19 @@ pub fn gate(
 pub fn register(
     builder: &mut Builder,
     place: Place,
-    kind: Kind,
+    kind: PartKind,
     i: usize,
     j: usize,
     next: usize,
 ) -> Result<usize, Memory>
     requires begun { place.gadget < builder.old.gadgets }
-    requires index { IsIndex place.shares (kind_of kind) i j }
-    requires below { Below place.shares place.gadget (rank place.shares (kind_of kind) i j) (names builder.old.wires) }
+    requires index { IsIndex place.shares kind i j }
+    requires below { Below place.shares place.gadget (rank place.shares kind i j) (names builder.old.wires) }
     requires next { next < length builder.old.wires }
     requires clock { place.clock < length builder.old.wires }
-    ensures grown { OnOk result (Grown place.shares place.gadget (rank place.shares (kind_of kind) i j + 1) 0 builder.old builder.new) }
+    ensures grown { OnOk result (Grown place.shares place.gadget (rank place.shares kind i j + 1) 0 builder.old builder.new) }
     ensures within { IfOk result (λ w. w < length builder.new.wires) }
-    ensures shared { IfOk result (λ w. IsTrue (is_of_share (kind_of kind)) → MayBeShare builder.new.wires place.shares i w) }
+    ensures shared { IfOk result (λ w. IsTrue (is_share_kind kind) → MayBeShare builder.new.wires place.shares i w) }
     ensures value { IfOk result (λ w. AddsFact builder.old builder.new (λ cycles bits. (t : ℕ) → t + 1 < cycles → bits (t + 1) w ≡ bits t next)) }
 {
     let name = part_name(place, kind, i, j)?;
@@ -81,22 +81,22 @@ pub fn register(
 fn stored(
     builder: &mut Builder,
     place: Place,
-    kinds: (Kind, Kind),
+    kinds: (PartKind, PartKind),
     i: usize,
     j: usize,
     gate_of: Gate,
 ) -> Result<usize, Memory>
     requires begun { place.gadget < builder.old.gadgets }
     requires clock { place.clock < length builder.old.wires }
-    requires first { IsIndex place.shares (kind_of kinds.0) i j }
-    requires second { IsIndex place.shares (kind_of kinds.1) i j }
-    requires next { rank place.shares (kind_of kinds.1) i j ≡ rank place.shares (kind_of kinds.0) i j + 1 }
-    requires below { Below place.shares place.gadget (rank place.shares (kind_of kinds.0) i j) (names builder.old.wires) }
+    requires first { IsIndex place.shares kinds.0 i j }
+    requires second { IsIndex place.shares kinds.1 i j }
+    requires next { rank place.shares kinds.1 i j ≡ rank place.shares kinds.0 i j + 1 }
+    requires below { Below place.shares place.gadget (rank place.shares kinds.0 i j) (names builder.old.wires) }
     requires fits { IsTrue (gate_below gate_of (length builder.old.wires)) }
     requires cell { IsCell (gate_formula gate_of) }
-    ensures grown { OnOk result (Grown place.shares place.gadget (rank place.shares (kind_of kinds.1) i j + 1) 0 builder.old builder.new) }
+    ensures grown { OnOk result (Grown place.shares place.gadget (rank place.shares kinds.1 i j + 1) 0 builder.old builder.new) }
     ensures within { IfOk result (λ w. w < length builder.new.wires) }
-    ensures shared { IfOk result (λ w. IsTrue (is_of_share (kind_of kinds.1)) → MayBeShare builder.new.wires place.shares i w) }
+    ensures shared { IfOk result (λ w. IsTrue (is_share_kind kinds.1) → MayBeShare builder.new.wires place.shares i w) }
     ensures value { IfOk result (λ w. AddsFact builder.old builder.new (λ cycles bits. (t : ℕ) → t + 1 < cycles → bits (t + 1) w ≡ value (bits t) (gate_formula gate_of))) }
 {
     let now = gate(builder, place, kinds.0, i, j, gate_of)?;
@@ -122,11 +122,11 @@ pub fn square(
     ensures shared { IfOk result (MayBeShare builder.new.wires place.shares i) }
     ensures value { IfOk result (λ w. AddsFact builder.old builder.new (λ cycles bits. SquareAt cycles bits a b w)) }
 {
-    let before = register(builder, place, Kind::Bb, i, 0, b)?;
+    let before = register(builder, place, PartKind::Bb, i, 0, b)?;
     let product = stored(
         builder,
         place,
-        (Kind::Mx, Kind::M),
+        (PartKind::Mx, PartKind::M),
         i,
         0,
         Gate::And(a, before),
@@ -144,7 +144,7 @@ fn halves(
 ) -> Result<(usize, usize), Memory>
     requires begun { place.gadget < builder.old.gadgets }
     requires clock { place.clock < length builder.old.wires }
-    requires index { (i < place.shares) × (j < place.shares) }
+    requires index { (i < place.shares) × (j < place.shares) × (i ≢ j) }
     requires below { Below place.shares place.gadget (cell i j + (2 + turn i j * 6)) (names builder.old.wires) }
     requires a { wires.a < length builder.old.wires }
     requires inverse { wires.inverse < length builder.old.wires }
@@ -156,11 +156,11 @@ fn halves(
     ensures value { IfOk result (λ z. AddsFact builder.old builder.new (λ cycles bits. HalvesAt cycles bits wires.a wires.inverse wires.b wires.random wires.stored z.0 z.1)) }
 {
     let masked = Gate::Xor(wires.b, wires.random);
-    let v = stored(builder, place, (Kind::Vx, Kind::V), i, j, masked)?;
+    let v = stored(builder, place, (PartKind::Vx, PartKind::V), i, j, masked)?;
     let kept = Gate::And(wires.inverse, wires.stored);
-    let u = stored(builder, place, (Kind::Ux, Kind::U), i, j, kept)?;
+    let u = stored(builder, place, (PartKind::Ux, PartKind::U), i, j, kept)?;
     let crossed = Gate::And(wires.a, v);
-    let w = stored(builder, place, (Kind::Wx, Kind::W), i, j, crossed)?;
+    let w = stored(builder, place, (PartKind::Wx, PartKind::W), i, j, crossed)?;
     Ok((u, w))
 }
 
@@ -191,10 +191,10 @@ fn second_sum(
 {
     let before = place_of(i, j);
     if before + 2 == place.shares {
-        let last = gate(builder, place, Kind::C, i, 0, sum)?;
+        let last = gate(builder, place, PartKind::C, i, 0, sum)?;
         Ok(last)
     } else {
-        let next = gate(builder, place, Kind::S, i, 2 * before + 2, sum)?;
+        let next = gate(builder, place, PartKind::S, i, 2 * before + 2, sum)?;
         Ok(next)
     }
 }
@@ -222,7 +222,7 @@ fn two_more(
     let first = gate(
         builder,
         place,
-        Kind::S,
+        PartKind::S,
         i,
         2 * before + 1,
         Gate::Xor(sum, u),
@@ -262,8 +262,8 @@ pub fn pair(
     ensures value { IfOk result (λ z. AddsFact builder.old builder.new (λ cycles bits. PairAt cycles bits x.a x.inverse x.b x.sum y.a y.inverse y.b y.sum z.0 z.1)) }
 {
     let bit = builder.random()?;
-    let random = gate(builder, place, Kind::R, i, j, Gate::Same(bit))?;
-    let stored = register(builder, place, Kind::Rr, i, j, random)?;
+    let random = gate(builder, place, PartKind::R, i, j, Gate::Same(bit))?;
+    let stored = register(builder, place, PartKind::Rr, i, j, random)?;
     let upper = Crossing {
         a: x.a,
         inverse: x.inverse,

@@ -3,7 +3,7 @@ use Rattle.std.proofs.Common.{◌≡◌, ◌≢◌, ◌<◌, ◌+◌, ◌-◌, �
 use Rattle.agm_net.specs.Plain.{bit_names, select_name}
 use Rattle.std.proofs.lemmas.Fmt.{decimal_digit}
 use Rattle.agm_net.specs.Role.{share_name}
-use Rattle.agm_net.specs.Label.{l_share, IsOfShare}
+use Rattle.agm_net.specs.Label.{CountsAsShare}
 use Rattle.agm_net.specs.declared.port.Range.{Range}
 use Rattle.agm_net.specs.declared.port.Way.TheVariants.{Input as In}
 use Rattle.share_wiring.specs.Wiring.{Wiring, MayBeShare, IsSharing, names, name_at}
@@ -76,7 +76,7 @@ known old new closed name range bits shown e f g = f ∙ (ap (λ n. ported n nam
 
 of_share : (i w : ℕ) (rest : List ℕ) → i < 10 → 0 < length rest → w < length three.wires → name_at three.wires w ≡ codes "agm_s" ++ ((48 + i) ∷ 95 ∷ rest) → MayBeShare three.wires 2 i w
 of_share i w rest small some within at =
-    record { within = within; named = inr (λ e. (let same = e in omega arith), subst (IsOfShare 2 i) (sym (at ∙ shared i rest small)) (l_share i, refl, (omega arith, inr (inl (rest, some, refl))))) }
+    record { within = within; named = inr (λ e. (let same = e in omega arith), subst (CountsAsShare 1 i) (sym (at ∙ shared i rest small)) (inl (inl (share_name i rest, (omega arith, inl (rest, some, refl)), inl refl)))) }
 
 pub high_bits : IsSharing three.wires 2 (2 ∷ 4 ∷ [])
 high_bits zero lt = of_share 0 2 (select_name (codes "x") (1 - 0)) (omega arith) (omega arith) (omega arith) refl

@@ -1,10 +1,10 @@
 -- The names of a builder's own wires: new by their numbers, no gadget's, and shares of their indices.
-use Rattle.std.proofs.Common.{◌≡◌, ◌≢◌, ◌<◌, ◌==◌, ◌^◌, ◌++◌, ◌⊎◌, ℕ, Bool, true, false, cond, List, ◌∷◌, refl, sym, inl, inr, ◌∙◌, arith, IsTrue, eq-eqb}
+use Rattle.std.proofs.Common.{◌-◌, ◌≡◌, ◌≢◌, ◌<◌, ◌==◌, ◌^◌, ◌++◌, ◌⊎◌, ℕ, Bool, true, false, cond, List, ◌∷◌, refl, sym, inl, inr, ◌∙◌, arith, IsTrue, eq-eqb}
 use Rattle.std.specs.Fmt.{decimal}
 use Rattle.std.proofs.lemmas.Fmt.{decimal_injective}
 use Rattle.std.proofs.lemmas.Bool.{cases_Bool}
 use Rattle.agm_net.specs.Writable.{is_graphic, IsWritable}
-use Rattle.agm_net.specs.Label.{l_share, IsPublic, IsOfShare, public_name, inner_share_name, gadget_name}
+use Rattle.agm_net.specs.Label.{IsPublic, CountsAsShare, public_name, inner_share_name, gadget_name}
 use Rattle.share_wiring.specs.Own.{own_name}
 use Rattle.share_wiring.specs.Built.{LeavesFree, IsBegun, IsInnerName}
 use Rattle.share_wiring.proofs.Lists.{all_joined}
@@ -58,13 +58,13 @@ pub own_writable : (n i k : ℕ) → i < 2 ^ 64 → k < 2 ^ 64 → IsWritable (o
 own_writable n i k = writable (n == 1) i k
 
 -- it is public where there is one share, and else of its share
-pub own_is_share : (n i k : ℕ) → i < 2 ^ 32 → k < 2 ^ 64 → IsPublic (own_name n i k) ⊎ ((n ≢ 1) × IsOfShare n i (own_name n i k))
+pub own_is_share : (n i k : ℕ) → i < 2 ^ 32 → k < 2 ^ 64 → IsPublic (own_name n i k) ⊎ ((n ≢ 1) × CountsAsShare (n - 1) i (own_name n i k))
 own_is_share n i k hi hk =
     elim (cases_Bool (n == 1)) [
-      | inl one ↦ rw one (inl (inr (inr (inl (decimal k, decimal_some k hk, refl)))))
+      | inl one ↦ rw one (inl (inl (inr (inr (decimal k, decimal_some k hk, refl)))))
       | inr other ↦ rw other
           (inr (
             λ same. (let no : (n == 1) ≡ true = eq-eqb n 1 same in let bad : false ≡ true = sym other ∙ no in absurd (let r = bad in cc)),
-            (l_share i, refl, (hi, inr (inr (decimal k, decimal_some k hk, refl)))),
+            inl (inr (hi, decimal k, decimal_some k hk, refl)),
           ))
     ]

@@ -1,12 +1,12 @@
 -- The wires that a step makes.
-use Rattle.std.proofs.Common.{◌≡◌, ◌≢◌, ◌<◌, ◌≤◌, ◌+◌, ◌*◌, ◌^◌, ◌++◌, ◌⊎◌, ℕ, zero, suc, Bool, List, [], ◌∷◌, Some, codes, length, take, map, get_or, slice_get, refl, sym, ap, subst, inl, inr, ◌∙◌, length-append, append_assoc, arith, add-one, IsTrue, nat_lt}
+use Rattle.std.proofs.Common.{◌-◌, ◌≡◌, ◌≢◌, ◌<◌, ◌≤◌, ◌+◌, ◌*◌, ◌^◌, ◌++◌, ◌⊎◌, ℕ, zero, suc, Bool, List, [], ◌∷◌, Some, codes, length, take, map, get_or, slice_get, refl, sym, ap, subst, inl, inr, ◌∙◌, length-append, append_assoc, arith, add-one, IsTrue, nat_lt}
 use Rattle.std.specs.List.{AllByRecursion}
 use Rattle.std.proofs.lemmas.List.{get_or_append_left, map-append, length-map}
 use Rattle.std.proofs.lemmas.Option.{slice_get_within}
 use Rattle.agm_net.specs.declared.port.Port.{Port}
 use Rattle.std.proofs.lemmas.Bool.{cases_lt, and_from, lt-ltb}
 use Rattle.std.proofs.Math.Seq.{get_or-append_seam}
-use Rattle.agm_net.specs.Label.{IsPublic, IsOfShare}
+use Rattle.agm_net.specs.Label.{IsPublic, CountsAsShare}
 use Rattle.agm_net.specs.Writable.{IsWritable}
 use Rattle.share_wiring.specs.Wiring.{Wiring, IsRun, Keeps, source_at, name_at, names, share, MayBeShare, IsSharing}
 use Rattle.share_wiring.specs.Own.{own_name, own_wires, source_of, step_registers, upto}
@@ -90,7 +90,7 @@ module _ (net : Wiring) (n : ℕ) (source : ℕ → Source) where
       let is : name_at (net.wires ++ made) (first + i) ≡ own_name n i (first + i) =
       name_back net.wires made i ∙ (ap (λ ns. get_or ns i []) made_names ∙ get-upto n i (λ k. own_name n k (first + k)) [] lt) in
       subst (λ w. MayBeShare (net.wires ++ made) n i w) (sym at)
-      (record { within = below; named = subst (λ name. IsPublic name ⊎ ((n ≢ 1) × IsOfShare n i name)) (sym is) (own_is_share n i (first + i) (omega arith) (omega arith)) })
+      (record { within = below; named = subst (λ name. IsPublic name ⊎ ((n ≢ 1) × CountsAsShare (n - 1) i name)) (sym is) (own_is_share n i (first + i) (omega arith) (omega arith)) })
 
   -- and keep their sources
   pub made_keep : (z : List ℕ) (cycles : ℕ) (bits : ℕ → ℕ → Bool) → z ≡ upto n (λ i. length net.wires + i) → IsRun (net.wires ++ made) cycles bits

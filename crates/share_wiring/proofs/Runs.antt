@@ -1,9 +1,9 @@
 -- The traces of a net with more wires, and what stays.
-use Rattle.std.proofs.Common.{◌≡◌, ◌≢◌, ◌<◌, ◌≤◌, ◌+◌, ◌*◌, ◌++◌, ◌⊎◌, ℕ, zero, suc, Bool, List, [], length, take, drop, get_or, append_assoc, refl, sym, ap, ap₂, subst, ◌∙◌, length-append, arith}
+use Rattle.std.proofs.Common.{◌-◌, ◌≡◌, ◌≢◌, ◌<◌, ◌≤◌, ◌+◌, ◌*◌, ◌++◌, ◌⊎◌, ℕ, zero, suc, Bool, List, [], length, take, drop, get_or, append_assoc, refl, sym, ap, ap₂, subst, ◌∙◌, length-append, arith}
 use Rattle.std.specs.List.{AllByRecursion}
 use Rattle.std.proofs.lemmas.List.{take-append-drop, get_or_append_left, get_or-append-add, length-map}
 use Rattle.std.proofs.Math.Seq.{take-append_seam, take-length}
-use Rattle.agm_net.specs.Label.{IsPublic, IsOfShare}
+use Rattle.agm_net.specs.Label.{IsPublic, CountsAsShare}
 use Rattle.share_wiring.specs.Wiring.{Wiring, IsRun, Keeps, source_at, name_at, names, stored_at, stored_below, MayBeShare, IsPublicWire}
 use Rattle.share_wiring.specs.Adds.{Extends, AddsRegisters}
 use Rattle.share_wiring.specs.Built.{is_stored}
@@ -44,7 +44,7 @@ may_more : (old more : List Wire) (n i w : ℕ) → MayBeShare old n i w → May
 may_more old more n i w h =
     let len = length-append old more in
     let lt = h.within in
-    record { within = omega arith; named = subst (λ name. IsPublic name ⊎ ((n ≢ 1) × IsOfShare n i name)) (sym (name_front old more w lt)) h.named }
+    record { within = omega arith; named = subst (λ name. IsPublic name ⊎ ((n ≢ 1) × CountsAsShare (n - 1) i name)) (sym (name_front old more w lt)) h.named }
 
 public_more : (old more : List Wire) (w : ℕ) → IsPublicWire old w → IsPublicWire (old ++ more) w
 public_more old more w h =

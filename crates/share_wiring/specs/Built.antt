@@ -2,8 +2,7 @@
 use Rattle.std.specs.Prelude.{◌≡◌, ◌≢◌, ◌<◌, ◌≤◌, ◌^◌, ◌==◌, ◌⊎◌, ℕ, Bool, true, ◌&&◌, nat_lt, List, [], ◌∷◌, length, take, map, filter, slice_get, count_by, codes, IsTrue, Option, Some, None, ◌++◌}
 use Rattle.std.specs.List.{AllByRecursion, flat_map}
 use Rattle.agm_net.specs.Plain.{bit_names, is_input}
-use Rattle.agm_net.specs.Label.{IsUserName, IsPublic, gadget_name, IsOfShare as IsWireOfShare}
-use Rattle.agm_net.specs.Label.{IsOfShare as IsWireOfShare, IsUserName, IsPublic, gadget_name}
+use Rattle.agm_net.specs.Label.{CountsAsShare, IsUserName, IsPublic, gadget_name}
 use Rattle.agm_net.specs.Role.{IsOfShare}
 use Rattle.agm_net.specs.Writable.{IsWritable}
 use Rattle.agm_net.specs.declared.port.Port.{Port}
@@ -131,7 +130,7 @@ pub record IsNewPort (net : Wiring) (name : List ℕ) (range : Option Range) : T
 -- what the port of a name may be given: a public wire, or one of the share that the name says
 pub record MayBeGiven (wires : List Wire) (name : List ℕ) (w : ℕ) : Type 0 where
   pub within : w < length wires
-  pub named : IsPublic (name_at wires w) ⊎ ((n : ℕ) × (i : ℕ) × IsOfShare i name × IsWireOfShare n i (name_at wires w))
+  pub named : IsPublic (name_at wires w) ⊎ ((n : ℕ) × (i : ℕ) × IsOfShare i name × CountsAsShare n i (name_at wires w))
 
 -- what a gadget's part wants of its name: it is new, can be written, and is that of a gadget that was begun
 pub record IsNewPart (net : Wiring) (name : List ℕ) : Type 0 where

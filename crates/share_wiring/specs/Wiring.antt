@@ -1,8 +1,8 @@
 -- The net that a builder stands for, and its traces.
-use Rattle.std.specs.Prelude.{◌≡◌, ◌≢◌, ◌<◌, ◌+◌, ◌⊎◌, ℕ, zero, suc, Bool, List, [], ◌∷◌, ◌++◌, length, map, slice_index_or, Some}
+use Rattle.std.specs.Prelude.{◌≡◌, ◌≢◌, ◌<◌, ◌+◌, ◌-◌, ◌⊎◌, ℕ, zero, suc, Bool, List, [], ◌∷◌, ◌++◌, length, map, slice_index_or, Some}
 use Rattle.agm_net.specs.Formula.{value}
 use Rattle.agm_net.specs.Plain.{PlainNet, Line, Stored}
-use Rattle.agm_net.specs.Label.{IsPublic, IsOfShare}
+use Rattle.agm_net.specs.Label.{IsPublic, CountsAsShare}
 use Rattle.agm_net.specs.declared.port.Port.{Port}
 use Rattle.share_wiring.specs.Gates.{gate_formula}
 use Rattle.share_wiring.specs.declared.gate.Gate.TheVariants.{Zero, Same}
@@ -66,7 +66,7 @@ share shares i = slice_index_or shares i 0
 -- a wire that is public, or of share i where there are n shares, two or more
 pub record MayBeShare (wires : List Wire) (n i w : ℕ) : Type 0 where
   pub within : w < length wires
-  pub named : IsPublic (name_at wires w) ⊎ ((n ≢ 1) × IsOfShare n i (name_at wires w))
+  pub named : IsPublic (name_at wires w) ⊎ ((n ≢ 1) × CountsAsShare (n - 1) i (name_at wires w))
 
 -- n wires of the net, each of which may be the share of its index
 abbrev pub IsSharing : List Wire → ℕ → List ℕ → Type 0

@@ -4,7 +4,6 @@ use Rattle.std.specs.List.{AllByRecursion}
 use Rattle.std.specs.Fmt.{decimal}
 use Rattle.agm_net.specs.Plain.{bit_names, select_name, range_numbers}
 use Rattle.agm_net.specs.Role.{share_name}
-use Rattle.agm_net.specs.Label.{l_share}
 use Rattle.agm_net.specs.Writable.{is_graphic, IsWritable}
 use Rattle.agm_net.specs.declared.port.Port.{Port}
 use Rattle.agm_net.specs.declared.port.Range.{Range}
@@ -92,5 +91,5 @@ bit_is_share old new i n x small many written made =
     ap (λ ws. name_at ws (length old.wires)) made ∙ (ap (name_at (old.wires ++ more)) (sym none) ∙ name_back old.wires more 0) in
     record {
       within = omega (arith, len, count);
-      named = inr ((λ one. omega (arith, one)), (l_share i, refl, (omega arith, inr (inl (x, written.0, is)))));
+      named = inr ((λ one. omega (arith, one)), inl (inl (share_name i x, (omega arith, inl (x, written.0, refl)), inl is)));
     }

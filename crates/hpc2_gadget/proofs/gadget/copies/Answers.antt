@@ -1,6 +1,5 @@
 use Rattle.std.proofs.Common.{◌≤◌, ◌+◌, subst, arith}
 use Rattle.share_wiring.specs.Wiring.{MayBeShare, share}
-use Rattle.hpc2_gadget.specs.Kinds.{kind_of}
 use Rattle.hpc2_gadget.specs.Order.{rank}
 use Rattle.hpc2_gadget.specs.Grown.{Grown}
 use Rattle.hpc2_gadget.specs.Product.{SameAt}
@@ -9,7 +8,7 @@ use Rattle.hpc2_gadget.proofs.gadget.copies.Goals as goal
 
 pub loop-i-preserved : goal.loop-i-preserved
 loop-i-preserved g c =
-    let kind = kind_of c.args.kind in
+    let kind = c.args.kind in
     let i = c.loop-i.i in
     let order = c.requires.order i in
     let here = subst (λ n. Grown n c.args.place.gadget (rank n kind i 0 + 1) 0 c.loop-i.builder c.gate.new.builder) c.requires.shares c.in_ok-wire.ensures.grown in

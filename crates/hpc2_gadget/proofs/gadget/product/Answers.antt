@@ -4,6 +4,7 @@ use Rattle.share_wiring.specs.Adds.{random_bits}
 use Rattle.hpc2_gadget.specs.Grown.{Grown, triangle}
 use Rattle.hpc2_gadget.proofs.PartNames.{below_more}
 use Rattle.hpc2_gadget.proofs.Made.{grown_trans, begun_later, wire_later, sharing_later}
+use Rattle.hpc2_gadget.proofs.Numbers.{one_index}
 use Rattle.hpc2_gadget.proofs.Rows.{whole}
 use Rattle.hpc2_gadget.proofs.Sizes.{array_fits}
 use Rattle.hpc2_gadget.proofs.gadget.product.Goals as goal
@@ -16,7 +17,7 @@ copies-requires-2 g c =
     let le : n ≤ 16 = omega arith in
     let one = c.in_ok-a.ensures.grown in (
       array_fits n le,
-      (begun_later _ _ _ _ _ _ one c.requires.begun, (same, (refl, ((λ i. refl), ((λ i lt. (omega arith, omega arith, tt)), (below_more _ _ _ _ _ (omega arith) one.below, sharing_later _ _ _ _ _ _ one n c.args.y.now.shares c.requires.second)))))),
+      (begun_later _ _ _ _ _ _ one c.requires.begun, (same, (refl, ((λ i. refl), ((λ i lt. one_index n i le lt), (below_more _ _ _ _ _ (omega arith) one.below, sharing_later _ _ _ _ _ _ one n c.args.y.now.shares c.requires.second)))))),
     )
 
 pub inverses-requires : goal.inverses-requires

@@ -1,5 +1,6 @@
 use Rattle.std.proofs.Common.{◌<◌, ◌+◌, arith}
 use Rattle.hpc2_gadget.proofs.Made.{random_grown, grown_trans, grown_more}
+use Rattle.hpc2_gadget.proofs.Numbers.{random_index, stored_index}
 use Rattle.hpc2_gadget.proofs.Rows.{pair_sum}
 use Rattle.hpc2_gadget.proofs.parts.pair.Goals as goal
 
@@ -32,3 +33,6 @@ returns-clause-value c cycles bits run =
 
 pub returns-clause-low : goal.returns-clause-low
 returns-clause-low c = c.in_ok-high.ensures.grown.extends.shares _ _ _ c.in_ok-low.ensures.shared
+
+pub gate-requires-clause-index : goal.gate-requires-clause-index
+gate-requires-clause-index c = random_index c.args.place.shares c.args.i c.args.j c.args.place.size.1 c.requires.index.0 c.requires.index.1
