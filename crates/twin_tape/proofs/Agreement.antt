@@ -5,7 +5,9 @@ use Rattle.agm_net.specs.Formula.{xor}
 use Rattle.agm_net.proofs.Formulas.{same_value}
 use Rattle.agm_net.specs.Plain.{PlainNet}
 use Rattle.agm_net.specs.Trace.{Row, bit_at}
-use Rattle.twin_tape.proofs.Network.{ClockWire, HasPart, IsNetwork, IsPart, KA, KB, KBb, KC, KClk, KM, KMx, KNa, KR, KRr, KS, KU, KUx, KV, KVx, KW, KWx, Keeps, Kind, Label, Names, Part, Plain, Public, RandomBit, part_share, share_of}
+use Rattle.twin_tape.proofs.Network.{ClockWire, HasPart, IsNetwork, IsPart, Keeps, Tag, Names, Part, Plain, Public, RandomBit, part_share, share_of}
+use Rattle.agm_net.specs.declared.label.PartKind.{PartKind}
+use Rattle.agm_net.specs.declared.label.PartKind.TheVariants.{A as KA, B as KB, Bb as KBb, C as KC, Clk as KClk, M as KM, Mx as KMx, Na as KNa, R as KR, Rr as KRr, S as KS, U as KU, Ux as KUx, V as KV, Vx as KVx, W as KW, Wx as KWx}
 use Rattle.twin_tape.proofs.Parts.{PairBit, There, bit_as, great_le, pair_bit, part_sees, rr_is, rr_power, small_great, u_is, u_power, v_is, v_power, w_is, w_power}
 use Rattle.twin_tape.proofs.ShareReads.{IsCross, Sees, SharePart, may_read, reads_share}
 use Rattle.twin_tape.proofs.Sources.{Clock, Equation, Input, Random, Ranked, Register, Source, reads_ever, source}
@@ -99,14 +101,14 @@ module _ (net : PlainNet) (names : Names) (d : ℕ) (hpc2 : IsNetwork net names 
         sym (w_is net names d hpc2 ranked power second twin (suc c) g i j there fits)
 
     -- a part of share i
-    share_part : (c w g i j : ℕ) (kind : Kind) → c < T → w < length net.wires → names.label w ≡ Part g kind i j → share_of (Part g kind i j) ≡ Some i → (IsCross kind → Prim.⊥) → P c i →
+    share_part : (c w g i j : ℕ) (kind : PartKind) → c < T → w < length net.wires → names.label w ≡ Part g kind i j → share_of (Part g kind i j) ≡ Some i → (IsCross kind → Prim.⊥) → P c i →
         ((n : ℕ) → source net w ≢ Input n) → ((n : ℕ) → source net w ≢ Random n) → Needs net ranked T x y Must (source net w) c w
     share_part c w g i j kind below inside is share cross p no_input no_random =
         plain c w inside (source net w) refl
         (λ b v le h. may_read (P b) (names.label v) i (reads_share net names d hpc2 w g i j kind inside is share cross v h) (older_to c b i le p))
         (λ n e. absurd (no_input n e)) no_random
 
-    by_part : (c w g i j : ℕ) (kind : Kind) → c < T → w < length net.wires → names.label w ≡ Part g kind i j → IsPart net names w g kind i j → SharePart (P c) (part_share kind i) → Needs net ranked T x y Must (source net w) c w
+    by_part : (c w g i j : ℕ) (kind : PartKind) → c < T → w < length net.wires → names.label w ≡ Part g kind i j → IsPart net names w g kind i j → SharePart (P c) (part_share kind i) → Needs net ranked T x y Must (source net w) c w
     by_part c w g i j KClk below inside is k p = absurd p
     by_part c w g i j KA below inside is k p = share_part c w g i j KA below inside is refl (λ no. no) p (λ n e. cc) (λ n e. cc)
     by_part c w g i j KB below inside is k p = share_part c w g i j KB below inside is refl (λ no. no) p (λ n e. cc) (λ n e. cc)
@@ -131,7 +133,7 @@ module _ (net : PlainNet) (names : Names) (d : ℕ) (hpc2 : IsNetwork net names 
     by_part c w g i j KS below inside is k p = share_part c w g i j KS below inside is refl (λ no. no) p (λ n e. cc) (λ n e. cc)
     by_part c w g i j KC below inside is k p = share_part c w g i j KC below inside is refl (λ no. no) p (λ n e. cc) (λ n e. cc)
 
-    by_label : (c w : ℕ) (label : Label) → c < T → w < length net.wires → names.label w ≡ label → Keeps net names w label → Sees (P c) label → Needs net ranked T x y Must (source net w) c w
+    by_label : (c w : ℕ) (label : Tag) → c < T → w < length net.wires → names.label w ≡ label → Keeps net names w label → Sees (P c) label → Needs net ranked T x y Must (source net w) c w
     by_label c w ClockWire below inside is k p =
         plain c w inside (source net w) refl (λ b v le h. absurd (true≢false (sym h ∙ ap (λ D. reads_ever D v) k))) (λ n e. cc) (λ n e. cc)
     by_label c w Public below inside is k p =

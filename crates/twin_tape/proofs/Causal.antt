@@ -4,7 +4,8 @@ use Rattle.agm_net.specs.Formula.{xor}
 use Rattle.agm_net.specs.Plain.{PlainNet}
 use Rattle.agm_net.specs.Trace.{Row, bit_at}
 use Rattle.twin_tape.proofs.Agreement.{Ties, alike}
-use Rattle.twin_tape.proofs.Network.{IsNetwork, KA, KB, Names}
+use Rattle.twin_tape.proofs.Network.{IsNetwork, Names}
+use Rattle.agm_net.specs.declared.label.PartKind.TheVariants.{A as KA, B as KB}
 use Rattle.twin_tape.proofs.Parts.{part_sees}
 use Rattle.twin_tape.proofs.ShareReads.{Sees, sees_map}
 use Rattle.twin_tape.proofs.Sources.{Ranked}

@@ -6,7 +6,8 @@ use Rattle.agm_net.specs.Trace.{Row, bit_at}
 use Rattle.probe_cones.specs.declared.probe.Probe.{Probe}
 use Rattle.twin_tape.proofs.Agreement.{alike}
 use Rattle.twin_tape.proofs.KnownSets.{known_older}
-use Rattle.twin_tape.proofs.Network.{IsNetwork, IsTwin, KA, KB, Names, change, half_at, sights_of, stores_seen}
+use Rattle.twin_tape.proofs.Network.{IsNetwork, IsTwin, Names, change, half_at, sights_of, stores_seen}
+use Rattle.agm_net.specs.declared.label.PartKind.TheVariants.{A as KA, B as KB}
 use Rattle.twin_tape.proofs.Parts.{There, part_sees}
 use Rattle.twin_tape.proofs.Sources.{Ranked}
 use Rattle.twin_tape.proofs.TwinMap.{bit_pair, only_twin, twin_of}

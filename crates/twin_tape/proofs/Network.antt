@@ -7,24 +7,23 @@ use Rattle.agm_net.specs.Loop.{HasNoLoop}
 use Rattle.agm_net.specs.Trace.{Row, bit_at}
 use Rattle.probe_cones.specs.Cone.{output_bits_of}
 use Rattle.probe_cones.specs.declared.probe.Probe.{Probe}
+use Rattle.agm_net.specs.declared.label.PartKind.{PartKind}
+use Rattle.agm_net.specs.declared.label.PartKind.TheVariants.{Clk as KClk, A as KA, B as KB, R as KR, Rr as KRr, Bb as KBb, Vx as KVx, V as KV, Na as KNa, Ux as KUx, U as KU, Wx as KWx, W as KW, Mx as KMx, M as KM, S as KS, C as KC}
 use Rattle.twin_tape.specs.Tapes.{open_bit, roles, random_width, bit_with}
 use Rattle.twin_tape.specs.Security.{sees, role_at}
 use Rattle.twin_tape.specs.Permitted.{Sight, Nobody, One', Inner, has, known, half_change}
 use Rattle.twin_tape.proofs.Sources.{Source, Input, Random, Clock, Equation, Register, source, reads_ever}
 
-pub data Kind : Type 0 where
-  KClk KA KB KR KRr KBb KVx KV KNa KUx KU KWx KW KMx KM KS KC : Kind
-
 -- What a wire's name says: the clock, public, the random bit of a pair, a wire of a share, or a part of a gadget.
-pub data Label : Type 0 where
-  ClockWire : Label
-  Public : Label
-  RandomBit : (gadget i j : ℕ) → Label
-  Plain : (index : ℕ) → Label
-  Part : (gadget : ℕ) → Kind → (i j : ℕ) → Label
+pub data Tag : Type 0 where
+  ClockWire : Tag
+  Public : Tag
+  RandomBit : (gadget i j : ℕ) → Tag
+  Plain : (index : ℕ) → Tag
+  Part : (gadget : ℕ) → PartKind → (i j : ℕ) → Tag
 
 -- the share that a part counts as
-abbrev pub part_share : Kind → ℕ → Option ℕ
+abbrev pub part_share : PartKind → ℕ → Option ℕ
 part_share KClk i = None
 part_share KR i = None
 part_share KRr i = None
@@ -34,25 +33,25 @@ part_share KUx i = None
 part_share KWx i = None
 part_share _ i = Some i
 
-abbrev pub share_of : Label → Option ℕ
+abbrev pub share_of : Tag → Option ℕ
 share_of (Plain i) = Some i
 share_of (Part g kind i j) = part_share kind i
 share_of _ = None
 
 -- The labels of the wires, the wire of each part, and the pair that reads each random bit.
 pub record Names : Type 0 where
-  pub label : ℕ → Label
-  pub part : ℕ → Kind → ℕ → ℕ → ℕ
+  pub label : ℕ → Tag
+  pub part : ℕ → PartKind → ℕ → ℕ → ℕ
   pub gadget_of : ℕ → ℕ
   pub small_of : ℕ → ℕ
   pub great_of : ℕ → ℕ
 
 -- a wire of share i may read public wires and wires of share i
-abbrev pub MayRead : Label → ℕ → Type 0
+abbrev pub MayRead : Tag → ℕ → Type 0
 MayRead label i = (label ≡ Public) ⊎ (share_of label ≡ Some i)
 
 -- whether a part of this kind and these numbers is in a gadget of order d
-abbrev pub HasPart : ℕ → Kind → ℕ → ℕ → Type 0
+abbrev pub HasPart : ℕ → PartKind → ℕ → ℕ → Type 0
 HasPart d KClk i j = (i ≡ 0) × (j ≡ 0)
 HasPart d KA i j = (i ≤ d) × (j ≡ 0)
 HasPart d KB i j = (i ≤ d) × (j ≡ 0)
@@ -79,7 +78,7 @@ module _ (net : PlainNet) (names : Names) where
   ReadsShare w i = (v : ℕ) → reads_ever (source net w) v ≡ true → MayRead (names.label v) i
 
   -- a part has its equation or register
-  abbrev pub IsPart : ℕ → ℕ → Kind → ℕ → ℕ → Type 0
+  abbrev pub IsPart : ℕ → ℕ → PartKind → ℕ → ℕ → Type 0
   IsPart w g KClk i j = (v : ℕ) × (source net w ≡ Equation (f_wire v)) × (names.label v ≡ ClockWire)
   IsPart w g KA i j = (v : ℕ) × (source net w ≡ Equation (f_wire v)) × MayRead (names.label v) i
   IsPart w g KB i j = (v : ℕ) × (source net w ≡ Equation (f_wire v)) × MayRead (names.label v) i
@@ -100,7 +99,7 @@ module _ (net : PlainNet) (names : Names) where
   IsPart w g KC i j = (e : Formula) × (source net w ≡ Equation e) × ReadsShare w i
 
   -- what a wire's label asks of its driver
-  abbrev pub Keeps : ℕ → Label → Type 0
+  abbrev pub Keeps : ℕ → Tag → Type 0
   Keeps w ClockWire = source net w ≡ Clock
   Keeps w Public = ((v : ℕ) → reads_ever (source net w) v ≡ true → names.label v ≡ Public) × ((n : ℕ) → source net w ≡ Input n → role_at net n ≡ open_bit) × ((n : ℕ) → source net w ≢ Random n)
   Keeps w (RandomBit g i j) = (n : ℕ) × (source net w ≡ Random n) × (n < random_width net) × (names.gadget_of n ≡ g) × (names.small_of n ≡ i) × (names.great_of n ≡ j) × (i < j) × (r : ℕ) × (r < length net.wires) × (names.label r ≡ Part g KR i j)
@@ -114,14 +113,14 @@ module _ (net : PlainNet) (names : Names) where
     pub ports : (w n : ℕ) → w < length net.wires → source net w ≡ Input n → n < length (roles net)
     pub keeps : (w : ℕ) → w < length net.wires → Keeps w (names.label w)
     -- with a part its whole gadget is there
-    pub whole : (w g i j : ℕ) (kind : Kind) → w < length net.wires → names.label w ≡ Part g kind i j → HasPart d kind i j × (w ≡ names.part g kind i j) ×
-        ((k : Kind) (a b : ℕ) → HasPart d k a b → (names.part g k a b < length net.wires) × (names.label (names.part g k a b) ≡ Part g k a b))
+    pub whole : (w g i j : ℕ) (kind : PartKind) → w < length net.wires → names.label w ≡ Part g kind i j → HasPart d kind i j × (w ≡ names.part g kind i j) ×
+        ((k : PartKind) (a b : ℕ) → HasPart d k a b → (names.part g k a b < length net.wires) × (names.label (names.part g k a b) ≡ Part g k a b))
     -- each random bit has a wire that one pair reads
     pub bits : (n : ℕ) → n < random_width net → (w g i j : ℕ) × (w < length net.wires) × (source net w ≡ Random n) × (names.label w ≡ RandomBit g i j)
     -- each output bit of a share has its label
     pub outputs : (i : ℕ) → All (λ w. (w < length net.wires) × (share_of (names.label w) ≡ Some i)) (output_bits_of net i)
 
-abbrev pub part_sight : ℕ → Kind → ℕ → ℕ → ℕ → Sight
+abbrev pub part_sight : ℕ → PartKind → ℕ → ℕ → ℕ → Sight
 part_sight g KClk i j t = Nobody
 part_sight g KR i j t = Inner g i j (suc t) i
 part_sight g KVx i j t = Inner g (min i j) (max i j) (suc t) j
@@ -131,7 +130,7 @@ part_sight g KUx i j t = Inner g (min i j) (max i j) t i
 part_sight g KWx i j t = Inner g (min i j) (max i j) t i
 part_sight g _ i j t = One' i
 
-abbrev pub sight : Label → ℕ → Sight
+abbrev pub sight : Tag → ℕ → Sight
 sight ClockWire t = Nobody
 sight Public t = Nobody
 sight (RandomBit g i j) t = Inner g i j (suc t) i

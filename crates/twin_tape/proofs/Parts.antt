@@ -4,7 +4,9 @@ use Rattle.agm_net.specs.Formula.{f_and, f_not, f_wire, f_xor, xor}
 use Rattle.agm_net.specs.Plain.{PlainNet}
 use Rattle.agm_net.specs.Run.{before}
 use Rattle.agm_net.specs.Trace.{Row, bit_at}
-use Rattle.twin_tape.proofs.Network.{HasPart, IsNetwork, IsPart, KA, KB, KNa, KR, KRr, KU, KUx, KV, KVx, KW, KWx, Keeps, Kind, Names, Part, RandomBit, part_share}
+use Rattle.twin_tape.proofs.Network.{HasPart, IsNetwork, IsPart, Keeps, Names, Part, RandomBit, part_share}
+use Rattle.agm_net.specs.declared.label.PartKind.{PartKind}
+use Rattle.agm_net.specs.declared.label.PartKind.TheVariants.{A as KA, B as KB, Na as KNa, R as KR, Rr as KRr, U as KU, Ux as KUx, V as KV, Vx as KVx, W as KW, Wx as KWx}
 use Rattle.twin_tape.proofs.ShareReads.{Sees, SharePart, kept}
 use Rattle.twin_tape.proofs.Sources.{Equation, Random, Ranked, Register, Source, asked, bit_is, reads_ever, source}
 use Rattle.twin_tape.specs.Tapes.{bit_with, random_width}
@@ -18,10 +20,10 @@ great_le i j d a b = omega arith
 module _ (net : PlainNet) (names : Names) (d : ℕ) (hpc2 : IsNetwork net names d) (ranked : Ranked net) where
   -- a gadget is there with all its parts
   abbrev pub There : ℕ → Type 0
-  There g = (k : Kind) (a b : ℕ) → HasPart d k a b → (names.part g k a b < length net.wires) × (names.label (names.part g k a b) ≡ Part g k a b)
+  There g = (k : PartKind) (a b : ℕ) → HasPart d k a b → (names.part g k a b < length net.wires) × (names.label (names.part g k a b) ≡ Part g k a b)
 
   -- a part that counts as a share
-  pub part_sees : (Q : ℕ → Type 0) (g i j : ℕ) (k : Kind) (there : There g) (fits : HasPart d k i j) → SharePart Q (part_share k i) → Sees Q (names.label (names.part g k i j))
+  pub part_sees : (Q : ℕ → Type 0) (g i j : ℕ) (k : PartKind) (there : There g) (fits : HasPart d k i j) → SharePart Q (part_share k i) → Sees Q (names.label (names.part g k i j))
   part_sees Q g i j k there fits p = subst (Sees Q) (sym (there k i j fits).1) p
 
   -- the random bit that a pair reads
@@ -37,7 +39,7 @@ module _ (net : PlainNet) (names : Names) (d : ℕ) (hpc2 : IsNetwork net names 
     pub driven : source net wire ≡ Random number
     pub read : source net (names.part g KR i j) ≡ Equation (f_wire wire)
 
-  pub there_kept : (g : ℕ) → There g → (k : Kind) (a b : ℕ) → HasPart d k a b → IsPart net names (names.part g k a b) g k a b
+  pub there_kept : (g : ℕ) → There g → (k : PartKind) (a b : ℕ) → HasPart d k a b → IsPart net names (names.part g k a b) g k a b
   there_kept g there k a b fits = let p = there k a b fits in kept net names d hpc2 (names.part g k a b) g a b k p.0 p.1
 
   pub pair_bit : (g i j : ℕ) → There g → i < j → j ≤ d → PairBit g i j

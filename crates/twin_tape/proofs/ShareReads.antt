@@ -2,7 +2,9 @@
 use Rattle.std.proofs.Common.{length, ◌≡◌, ℕ, ◌<◌, ◌⊎◌, true, ◌||◌, Some, None, Option, nat_eq, refl, sym, ap, subst, inl, inr, ⊎_elim, arith, eqb-true}
 use Rattle.agm_net.specs.Formula.{f_and, f_not, f_wire}
 use Rattle.agm_net.specs.Plain.{PlainNet}
-use Rattle.twin_tape.proofs.Network.{ClockWire, HasPart, IsNetwork, IsPart, KA, KB, KBb, KC, KClk, KM, KMx, KNa, KR, KRr, KS, KU, KUx, KV, KVx, KW, KWx, Keeps, Kind, Label, MayRead, Names, Part, Plain, Public, RandomBit, ReadsShare, part_share, share_of}
+use Rattle.twin_tape.proofs.Network.{ClockWire, HasPart, IsNetwork, IsPart, Keeps, Tag, MayRead, Names, Part, Plain, Public, RandomBit, ReadsShare, part_share, share_of}
+use Rattle.agm_net.specs.declared.label.PartKind.{PartKind}
+use Rattle.agm_net.specs.declared.label.PartKind.TheVariants.{A as KA, B as KB, Bb as KBb, C as KC, Clk as KClk, M as KM, Mx as KMx, Na as KNa, R as KR, Rr as KRr, S as KS, U as KU, Ux as KUx, V as KV, Vx as KVx, W as KW, Wx as KWx}
 use Rattle.twin_tape.proofs.Sources.{Equation, Register, Source, reads_ever, source}
 
 -- whether a wire of this label is to agree where the indices with P are
@@ -10,21 +12,21 @@ abbrev pub SharePart : (ℕ → Type 0) → Option ℕ → Type 0
 SharePart P (Some i) = P i
 SharePart P None = Prim.⊥
 
-abbrev pub Sees : (ℕ → Type 0) → Label → Type 0
+abbrev pub Sees : (ℕ → Type 0) → Tag → Type 0
 Sees P ClockWire = Unit {0}
 Sees P Public = Unit {0}
 Sees P (RandomBit g i j) = Prim.⊥
 Sees P (Plain i) = P i
 Sees P (Part g kind i j) = SharePart P (part_share kind i)
 
-sees_share : (P : ℕ → Type 0) (label : Label) → SharePart P (share_of label) → Sees P label
+sees_share : (P : ℕ → Type 0) (label : Tag) → SharePart P (share_of label) → Sees P label
 sees_share P ClockWire p = tt
 sees_share P Public p = tt
 sees_share P (RandomBit g i j) p = p
 sees_share P (Plain i) p = p
 sees_share P (Part g kind i j) p = p
 
-pub may_read : (P : ℕ → Type 0) (label : Label) (i : ℕ) → MayRead label i → P i → Sees P label
+pub may_read : (P : ℕ → Type 0) (label : Tag) (i : ℕ) → MayRead label i → P i → Sees P label
 may_read P label i (inl e) p = subst (Sees P) (sym e) tt
 may_read P label i (inr e) p = sees_share P label (subst (SharePart P) (sym e) p)
 
@@ -32,7 +34,7 @@ pub share_map : (P Q : ℕ → Type 0) → ((i : ℕ) → P i → Q i) → (o : 
 share_map P Q f None p = p
 share_map P Q f (Some i) p = f i p
 
-pub sees_map : (P Q : ℕ → Type 0) → ((i : ℕ) → P i → Q i) → (label : Label) → Sees P label → Sees Q label
+pub sees_map : (P Q : ℕ → Type 0) → ((i : ℕ) → P i → Q i) → (label : Tag) → Sees P label → Sees Q label
 sees_map P Q f ClockWire p = p
 sees_map P Q f Public p = p
 sees_map P Q f (RandomBit g i j) p = p
@@ -40,7 +42,7 @@ sees_map P Q f (Plain i) p = f i p
 sees_map P Q f (Part g kind i j) p = share_map P Q f (part_share kind i) p
 
 -- the two bits of a gadget that a wire of share i reads of others
-abbrev pub IsCross : Kind → Type 0
+abbrev pub IsCross : PartKind → Type 0
 IsCross KU = Unit {0}
 IsCross KW = Unit {0}
 IsCross _ = Prim.⊥
@@ -53,13 +55,13 @@ read_two a b u e = grind (arith, eqb-true)
 
 module _ (net : PlainNet) (names : Names) (d : ℕ) (hpc2 : IsNetwork net names d) where
   -- a part's label, and so its share
-  pub part_label : (w g i j : ℕ) (kind : Kind) → w < length net.wires → names.label w ≡ Part g kind i j → (k : Kind) (a b : ℕ) → HasPart d k a b → names.label (names.part g k a b) ≡ Part g k a b
+  pub part_label : (w g i j : ℕ) (kind : PartKind) → w < length net.wires → names.label w ≡ Part g kind i j → (k : PartKind) (a b : ℕ) → HasPart d k a b → names.label (names.part g k a b) ≡ Part g k a b
   part_label w g i j kind inside is k a b has_part = ((hpc2.whole w g i j kind inside is).2 k a b has_part).1
 
-  pub kept : (w g i j : ℕ) (kind : Kind) → w < length net.wires → names.label w ≡ Part g kind i j → IsPart net names w g kind i j
+  pub kept : (w g i j : ℕ) (kind : PartKind) → w < length net.wires → names.label w ≡ Part g kind i j → IsPart net names w g kind i j
   kept w g i j kind inside is = subst (Keeps net names w) is (hpc2.keeps w inside)
 
-  pub in_gadget : (w g i j : ℕ) (kind : Kind) → w < length net.wires → names.label w ≡ Part g kind i j → HasPart d kind i j
+  pub in_gadget : (w g i j : ℕ) (kind : PartKind) → w < length net.wires → names.label w ≡ Part g kind i j → HasPart d kind i j
   in_gadget w g i j kind inside is = (hpc2.whole w g i j kind inside is).0
 
   of_driver : (w v : ℕ) (D : Source) → source net w ≡ D → reads_ever (source net w) v ≡ true → reads_ever D v ≡ true
@@ -74,7 +76,7 @@ module _ (net : PlainNet) (names : Names) (d : ℕ) (hpc2 : IsNetwork net names 
       ⊎_elim (λ e. subst (λ u. MayRead (names.label u) i) (sym e) may_a) (λ e. subst (λ u. MayRead (names.label u) i) (sym e) may_b) (only v (of_driver w v D is h))
 
   -- parts that count as share i, but for the cross terms, read public wires and wires of share i
-  pub reads_share : (w g i j : ℕ) (kind : Kind) → w < length net.wires → names.label w ≡ Part g kind i j → share_of (Part g kind i j) ≡ Some i → (IsCross kind → Prim.⊥) → ReadsShare net names w i
+  pub reads_share : (w g i j : ℕ) (kind : PartKind) → w < length net.wires → names.label w ≡ Part g kind i j → share_of (Part g kind i j) ≡ Some i → (IsCross kind → Prim.⊥) → ReadsShare net names w i
   reads_share w g i j KClk inside is share cross = cc
   reads_share w g i j KA inside is share cross =
       let k = kept w g i j KA inside is in reads_one w k.0 i (Equation (f_wire k.0)) k.1 (λ v h. read_wire k.0 v h) k.2

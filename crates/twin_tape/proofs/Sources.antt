@@ -115,7 +115,7 @@ row_bit (Random n) others random = slice_index_or random n false
 row_bit _ others random = false
 
 -- past its end a list gives the default
-past_end : {X : Type 0} (xs : List X) (n : ℕ) (d : X) → length xs ≤ n → slice_index_or xs n d ≡ d
+pub past_end : {X : Type 0} (xs : List X) (n : ℕ) (d : X) → length xs ≤ n → slice_index_or xs n d ≡ d
 past_end [] n d h = refl
 past_end (x ∷ xs) zero d h = absurd (omega arith)
 past_end (x ∷ xs) (suc n) d h = past_end xs n d (omega arith)
@@ -186,7 +186,7 @@ append_long : {X : Type 0} (xs ys : List X) → length (xs ++ ys) ≡ length xs 
 append_long [] ys = omega arith
 append_long (x ∷ xs) ys = let e = append_long xs ys in omega arith
 
-roles_long : (ps : List Port) → length (flat_map port_roles ps) ≡ length (flat_map (λ p. p.bits) ps)
+pub roles_long : (ps : List Port) → length (flat_map port_roles ps) ≡ length (flat_map (λ p. p.bits) ps)
 roles_long [] = refl
 roles_long (p ∷ ps) =
     append_long (port_roles p) (flat_map port_roles ps) ∙

@@ -6,7 +6,8 @@ use Rattle.agm_net.specs.Trace.{Row, bit_at}
 use Rattle.probe_cones.specs.declared.probe.Probe.{Probe}
 use Rattle.twin_tape.proofs.Causal.{depends_before}
 use Rattle.twin_tape.proofs.Counting.{is_twisted, length-IsTape, length-twisted, twisted}
-use Rattle.twin_tape.proofs.Network.{IsNetwork, IsTwin, KA, KB, KR, Keeps, Names, change, half_at, sights_of, stores_seen}
+use Rattle.twin_tape.proofs.Network.{IsNetwork, IsTwin, Keeps, Names, change, half_at, sights_of, stores_seen}
+use Rattle.agm_net.specs.declared.label.PartKind.TheVariants.{A as KA, B as KB, R as KR}
 use Rattle.twin_tape.proofs.Parts.{There, part_sees}
 use Rattle.twin_tape.proofs.ShareReads.{Sees}
 use Rattle.twin_tape.proofs.Sources.{Random, Ranked, Source, source}

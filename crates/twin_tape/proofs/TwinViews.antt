@@ -9,7 +9,9 @@ use Rattle.probe_cones.specs.Cone.{cone}
 use Rattle.probe_cones.specs.declared.probe.Probe.{Probe}
 use Rattle.twin_tape.proofs.Agreement.{Must, Ties, alike, needs}
 use Rattle.twin_tape.proofs.KnownSets.{At, Splits, begun_old, begun_plain, both_from, known_begun, known_home, known_older, no_other, not_later}
-use Rattle.twin_tape.proofs.Network.{ClockWire, HasPart, IsNetwork, IsTwin, KA, KB, KBb, KC, KClk, KM, KMx, KNa, KR, KRr, KS, KU, KUx, KV, KVx, KW, KWx, Keeps, Kind, Label, Names, Part, Plain, Public, RandomBit, change, share_of, sight, sights_of, stores_seen}
+use Rattle.twin_tape.proofs.Network.{ClockWire, HasPart, IsNetwork, IsTwin, Keeps, Tag, Names, Part, Plain, Public, RandomBit, change, share_of, sight, sights_of, stores_seen}
+use Rattle.agm_net.specs.declared.label.PartKind.{PartKind}
+use Rattle.agm_net.specs.declared.label.PartKind.TheVariants.{A as KA, B as KB, Bb as KBb, C as KC, Clk as KClk, M as KM, Mx as KMx, Na as KNa, R as KR, Rr as KRr, S as KS, U as KU, Ux as KUx, V as KV, Vx as KVx, W as KW, Wx as KWx}
 use Rattle.twin_tape.proofs.PairCases.{no_change, one_in_v}
 use Rattle.twin_tape.proofs.Parts.{There, bit_as, great_le, pair_bit, part_sees, rr_is, rr_power, small_great, there_kept, v_is, v_power}
 use Rattle.twin_tape.proofs.ShareReads.{Sees, kept, may_read, read_two, read_wire}
@@ -66,7 +68,7 @@ module _ (net : PlainNet) (names : Names) (d : ℕ) (hpc2 : IsNetwork net names 
   Shows c n w = Seen net ranked (x c) (y c) n w
 
   -- the sight of the m-th probe
-  at_probe : (m : ℕ) (label : Label) → m < length probes → names.label (slice_index_or probes m nil_probe).wire ≡ label → At sights m (sight label (slice_index_or probes m nil_probe).cycle)
+  at_probe : (m : ℕ) (label : Tag) → m < length probes → names.label (slice_index_or probes m nil_probe).wire ≡ label → At sights m (sight label (slice_index_or probes m nil_probe).cycle)
   at_probe m label h is = (
     subst (λ n. m < n) (sym (length_map (λ probe. sight (names.label probe.wire) probe.cycle) probes)) h,
     map_at (λ probe. sight (names.label probe.wire) probe.cycle) probes m nil_probe Nobody h ∙ ap (λ l. sight l (slice_index_or probes m nil_probe).cycle) is,
@@ -105,7 +107,7 @@ module _ (net : PlainNet) (names : Names) (d : ℕ) (hpc2 : IsNetwork net names 
       let cycle : p.cycle ≡ suc t = eqb-true p.cycle (suc t) both.0 in
       let pair = pair_is i j h o lt splits in
       let sees_it : Inner g (min h o) (max h o) (suc t) h ≡ Inner g i j (suc t) h = ap₂ (λ a b. Inner g a b (suc t) h) pair.0 pair.1 in
-      let other : (label : Label) → names.label p.wire ≡ label → sight label (suc t) ≡ Inner g (min h o) (max h o) (suc t) h → (names.label (slice_index_or probes m nil_probe).wire ≢ label) → Prim.⊥ = λ label is looks differs.
+      let other : (label : Tag) → names.label p.wire ≡ label → sight label (suc t) ≡ Inner g (min h o) (max h o) (suc t) h → (names.label (slice_index_or probes m nil_probe).wire ≢ label) → Prim.⊥ = λ label is looks differs.
       let at' = at_probe n label found.1 is in
       no_other sights A T (suc t) m n g i j h o h o le (λ e. omega arith) splits splits at out
       (λ e. differs (ap (λ k. names.label (slice_index_or probes k nil_probe).wire) e ∙ is)) (at'.0, at'.1 ∙ ap (sight label) cycle ∙ looks ∙ sees_it) in
@@ -207,7 +209,7 @@ module _ (net : PlainNet) (names : Names) (d : ℕ) (hpc2 : IsNetwork net names 
       (λ e. or_right (nat_eq p.wire (names.part g KV h o)) (nat_eq p.wire (names.part g KWx h o)) (eq-eqb p.wire (names.part g KWx h o) (is_w ∙ e))) one in
       list_any_from (λ probe. nat_eq probe.cycle c && (nat_eq probe.wire (names.part g KV h o) || nat_eq probe.wire (names.part g KWx h o))) probes m nil_probe small (ap₂ (λ a b. a && b) cycle wire)
 
-  part_shows : (m n w c g i j : ℕ) (kind : Kind) → m < length probes → w < length net.wires → c < T → names.label w ≡ Part g kind i j → At sights m (sight (Part g kind i j) c) →
+  part_shows : (m n w c g i j : ℕ) (kind : PartKind) → m < length probes → w < length net.wires → c < T → names.label w ≡ Part g kind i j → At sights m (sight (Part g kind i j) c) →
       (slice_index_or probes m nil_probe).wire ≡ w → (slice_index_or probes m nil_probe).cycle ≡ c → HasPart d kind i j → w ≡ names.part g kind i j → There net names d hpc2 ranked g → Shows c n w
   part_shows m n w c g i j KClk small inside below is at is_w is_c fits part there =
       let k = kept net names d hpc2 w g i j KClk inside is in
@@ -271,7 +273,7 @@ module _ (net : PlainNet) (names : Names) (d : ℕ) (hpc2 : IsNetwork net names 
   part_shows m n w c g i j KS small inside below is at is_w is_c fits part there = must_shows n c w below inside (subst (Sees (P c)) (sym is) (known_begun sights A T c i (begun_plain sights A m i at)))
   part_shows m n w c g i j KC small inside below is at is_w is_c fits part there = must_shows n c w below inside (subst (Sees (P c)) (sym is) (known_begun sights A T c i (begun_plain sights A m i at)))
 
-  label_shows : (m n w c : ℕ) (label : Label) → m < length probes → w < length net.wires → c < T → names.label w ≡ label → At sights m (sight label c) →
+  label_shows : (m n w c : ℕ) (label : Tag) → m < length probes → w < length net.wires → c < T → names.label w ≡ label → At sights m (sight label c) →
       (slice_index_or probes m nil_probe).wire ≡ w → (slice_index_or probes m nil_probe).cycle ≡ c → Shows c n w
   label_shows m n w c ClockWire small inside below is at is_w is_c = must_shows n c w below inside (subst (Sees (P c)) (sym is) tt)
   label_shows m n w c Public small inside below is at is_w is_c = must_shows n c w below inside (subst (Sees (P c)) (sym is) tt)

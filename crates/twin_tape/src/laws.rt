@@ -1,8 +1,10 @@
 //! Laws about the definitions, which proofs above cite.
 
 ghost use Rattle.std.specs.Prelude.{◌≡◌, ℕ, List, length, count_by};
+ghost use Rattle.agm_net.specs.Network.{Hpc2};
 ghost use Rattle.agm_net.specs.Plain.{PlainNet};
 ghost use Rattle.agm_net.specs.Trace.{Row};
+ghost use Rattle.agm_net.specs.WellFormed.{WellFormed};
 ghost use Rattle.twin_tape.specs.Laws.{SumsStay, BijectedCounts, HasTwins};
 ghost use Rattle.twin_tape.specs.Security.{Pini, IsWhole, Blind};
 ghost use Rattle.twin_tape.specs.Tapes.{IsTape, tapes, same_tape, bit_roles, roles, random_width, joined, random_of, others_of};
@@ -41,4 +43,14 @@ pub fn twins_isolate()
 /// Probes that isolate tell nothing of the secrets of a whole net.
 pub fn isolation_blinds()
     ensures { (net : PlainNet) (d : ℕ) → Pini net d → IsWhole net d → Blind net d }
+{}
+
+/// Every HPC2 network isolates probes, at its order: those of Cassiers, Grégoire, Levi and Standaert, whatever its operands depend on.
+pub fn networks_isolate()
+    ensures { (net : PlainNet) (d : ℕ) → WellFormed net → Hpc2 net d → Pini net d }
+{}
+
+/// Every whole HPC2 network keeps its secrets.
+pub fn networks_keep_secrets()
+    ensures { (net : PlainNet) (d : ℕ) → WellFormed net → Hpc2 net d → IsWhole net d → Blind net d }
 {}

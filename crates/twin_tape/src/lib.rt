@@ -4,6 +4,6 @@
 mod laws;
 
 pub use laws::{
-    bijected_counts, each_tape_once, isolation_blinds, joined_and_split, split_and_joined,
-    sums_stay, twins_isolate,
+    bijected_counts, each_tape_once, isolation_blinds, joined_and_split, networks_isolate,
+    networks_keep_secrets, split_and_joined, sums_stay, twins_isolate,
 };

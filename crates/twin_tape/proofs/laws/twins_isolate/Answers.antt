@@ -1,7 +1,4 @@
 use Rattle.twin_tape.proofs.Twins.{pini_from_twins}
-use Rattle.twin_tape.proofs.Isolation.{isolates}
-use Rattle.twin_tape.proofs.Blinding.{blind}
-use Rattle.twin_tape.proofs.Exchange.{twin_back}
 use Rattle.twin_tape.proofs.laws.twins_isolate.Goals as goal
 
 pub returns : goal.returns
