@@ -13,6 +13,7 @@ mod Network
 mod Once
 mod PairCases
 mod Parts
+mod PermittedIs
 mod Places
 mod PortNames
 mod Rules

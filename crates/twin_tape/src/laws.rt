@@ -1,12 +1,15 @@
 //! Laws about the definitions, which proofs above cite.
 
-ghost use Rattle.std.specs.Prelude.{◌≡◌, ℕ, List, length, count_by};
+ghost use Rattle.std.specs.Prelude.{◌≡◌, ◌≤◌, ◌++◌, ℕ, List, length, count_by};
 ghost use Rattle.agm_net.specs.Network.{Hpc2};
 ghost use Rattle.agm_net.specs.Plain.{PlainNet};
 ghost use Rattle.agm_net.specs.Trace.{Row};
 ghost use Rattle.agm_net.specs.WellFormed.{WellFormed};
+ghost use Rattle.agm_net.specs.declared.label.Label.{Label};
+ghost use Rattle.probe_cones.specs.declared.probe.Probe.{Probe};
 ghost use Rattle.twin_tape.specs.Laws.{SumsStay, BijectedCounts, HasTwins};
-ghost use Rattle.twin_tape.specs.Security.{Pini, IsWhole, Blind};
+ghost use Rattle.twin_tape.specs.Permitted.{AreLabels, permitted, sights};
+ghost use Rattle.twin_tape.specs.Security.{Agree, AreProbes, Blind, IsWhole, Pini, seen};
 ghost use Rattle.twin_tape.specs.Tapes.{IsTape, tapes, same_tape, bit_roles, roles, random_width, joined, random_of, others_of};
 
 /// Each tape of T rows of R bits is counted once.
@@ -53,4 +56,18 @@ pub fn networks_isolate()
 /// Every whole HPC2 network keeps its secrets.
 pub fn networks_keep_secrets()
     ensures { (net : PlainNet) (d : ℕ) → WellFormed net → Hpc2 net d → IsWhole net d → Blind net d }
+{}
+
+/// Beside the listed indices at most one is permitted for each probe.
+pub fn permitted_are_few()
+    ensures { (label : ℕ → Label) (probes : List Probe) (A : List ℕ) (T : ℕ) →
+        (B : List ℕ) × (permitted (sights label probes) A T ≡ B ++ A) × (length B ≤ length probes) }
+{}
+
+/// The permitted indices are those of isolation: in an HPC2 network each observation comes equally often for inputs that agree on them.
+pub fn permitted_isolate()
+    ensures { (net : PlainNet) (d : ℕ) (label : ℕ → Label) → WellFormed net → Hpc2 net d → AreLabels net d label →
+        (T : ℕ) (probes : List Probe) (A : List ℕ) → AreProbes net T probes →
+        (power : Row) (first second : List Row) → IsTape (length (roles net)) T first → Agree net (permitted (sights label probes) A T) first second →
+        (o : Row) → seen net T power first probes A o ≡ seen net T power second probes A o }
 {}

@@ -5,5 +5,6 @@ mod laws;
 
 pub use laws::{
     bijected_counts, each_tape_once, isolation_blinds, joined_and_split, networks_isolate,
-    networks_keep_secrets, split_and_joined, sums_stay, twins_isolate,
+    networks_keep_secrets, permitted_are_few, permitted_isolate, split_and_joined, sums_stay,
+    twins_isolate,
 };
