@@ -4,5 +4,5 @@
 mod laws;
 mod probe;
 
-pub use laws::shares_are_named;
+pub use laws::{cones_are_steps, shares_are_named};
 pub use probe::Probe;

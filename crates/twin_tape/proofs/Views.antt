@@ -7,7 +7,8 @@ use Rattle.agm_net.specs.Loop.{reads, IsChain, last_of}
 use Rattle.agm_net.specs.Run.{driver}
 use Rattle.agm_net.proofs.Driving.{reads_is}
 use Rattle.probe_cones.specs.Cone as cones
-use Rattle.probe_cones.specs.Cone.{cone, within, with_reads, wire_numbers}
+use Rattle.probe_cones.specs.Cone.{cone, within}
+use Rattle.probe_cones.proofs.Steps.{Leads, all_kept, all_map, all_within, same_map}
 use Rattle.twin_tape.proofs.Sources.{Ranked, source, is_source, source_is, reads_now, now_of}
 
 pub list_any_some : {X : Type 0} (p : X → Bool) (xs : List X) (default : X) → list_any p xs ≡ true → (m : ℕ) × (m < length xs) × (p (slice_index_or xs m default) ≡ true)
@@ -28,71 +29,6 @@ pub map_at : {X Y : Type 0} (f : X → Y) (xs : List X) (m : ℕ) (default : X) 
 map_at f [] m default other h = absurd (omega arith)
 map_at f (x ∷ xs) zero default other h = refl
 map_at f (x ∷ xs) (suc m) default other h = map_at f xs m default other (omega arith)
-
--- what all items that pass have
-all_kept : {X : Type 0} (P : X → Type 0) (p : X → Bool) (xs : List X) → AllByRecursion P xs → AllByRecursion (λ x. P x × (p x ≡ true)) (filter p xs)
-all_kept P p [] all = tt
-all_kept P p (x ∷ xs) all = go (p x) refl (all_kept P p xs all.1)
-  where
-    go : (b : Bool) → p x ≡ b → AllByRecursion (λ x. P x × (p x ≡ true)) (filter p xs) → AllByRecursion (λ x. P x × (p x ≡ true)) (cond b (x ∷ filter p xs) (filter p xs))
-    go true e rest = ((all.0, e), rest)
-    go false e rest = rest
-
-all_map : {X : Type 0} (P Q : X → Type 0) → ((x : X) → P x → Q x) → (xs : List X) → AllByRecursion P xs → AllByRecursion Q xs
-all_map P Q f [] all = tt
-all_map P Q f (x ∷ xs) all = (f x all.0, all_map P Q f xs all.1)
-
-some_of : {X : Type 0} (P : X → Type 0) (p : X → Bool) (xs : List X) → AllByRecursion P xs → list_any p xs ≡ true → (x : X) × P x × (p x ≡ true)
-some_of P p [] all e = absurd (true≢false (sym e))
-some_of P p (x ∷ xs) all e = ⊎_elim (λ h. (x, all.0, h)) (λ h. some_of P p xs all.1 h) (or_cases (p x) (list_any p xs) e)
-
-same_map : (f g : ℕ → Bool) (xs : List ℕ) → AllByRecursion (λ x. f x ≡ g x) xs → map f xs ≡ map g xs
-same_map f g [] all = refl
-same_map f g (x ∷ xs) all = ap₂ (λ b bs. b ∷ bs) all.0 (same_map f g xs all.1)
-
-range_below : (a n m : ℕ) → a + n ≤ m → AllByRecursion (λ w. w < m) (range_with_len a n)
-range_below a zero m le = tt
-range_below a (suc n) m le = (omega arith, range_below (a + 1) n m (omega arith))
-
--- a chain with one more wire at its end
-chain_more : (related : ℕ → ℕ → Bool) (w v : ℕ) (ws : List ℕ) → IsChain related w ws → related (last_of w ws) v ≡ true → IsChain related w (ws ++ v ∷ [])
-chain_more related w v [] chain e = (e, tt)
-chain_more related w v (u ∷ us) chain e = (chain.0, chain_more related u v us chain.1 e)
-
-last_more : (w v : ℕ) (ws : List ℕ) → last_of w (ws ++ v ∷ []) ≡ v
-last_more w v [] = refl
-last_more w v (u ∷ us) = last_more u v us
-
-long_more : (v : ℕ) (ws : List ℕ) → length (ws ++ v ∷ []) ≡ suc (length ws)
-long_more v [] = refl
-long_more v (u ∷ us) = ap suc (long_more v us)
-
-module _ (net : PlainNet) where
-  -- at most n reads lead from w to v
-  abbrev pub Leads : ℕ → ℕ → ℕ → Type 0
-  Leads n w v = (ws : List ℕ) × (length ws ≤ n) × IsChain (reads net) w ws × (last_of w ws ≡ v)
-
-  leads_step : (n w u v : ℕ) → Leads n w u → ((u == v) || reads net u v) ≡ true → Leads (suc n) w v
-  leads_step n w u v leads e =
-      ⊎_elim (λ same. (leads.0, let le = leads.1 in omega arith, leads.2, leads.3 ∙ eqb-true u v same))
-      (λ read. (
-        leads.0 ++ v ∷ [],
-        let le = leads.1 in let long = long_more v leads.0 in omega arith,
-        chain_more (reads net) w v leads.0 leads.2 (subst (λ k. reads net k v ≡ true) (sym leads.3) read),
-        last_more w v leads.0,
-      ))
-      (or_cases (u == v) (reads net u v) e)
-
-  pub all_within : (w n : ℕ) → AllByRecursion (λ v. (v < length net.wires) × Leads n w v) (within net w n)
-  all_within w zero =
-      all_map (λ v. (v < length net.wires) × ((w == v) ≡ true)) (λ v. (v < length net.wires) × Leads 0 w v)
-      (λ v h. (h.0, ([], omega arith, tt, eqb-true w v h.1))) (within net w 0)
-      (all_kept (λ v. v < length net.wires) (λ v. w == v) (wire_numbers net) (range_below 0 (length net.wires) (length net.wires) (omega arith)))
-  all_within w (suc n) =
-      let found = within net w n in
-      all_map (λ v. (v < length net.wires) × (list_any (λ u. (u == v) || reads net u v) found ≡ true)) (λ v. (v < length net.wires) × Leads (suc n) w v)
-      (λ v h. (h.0, let some = some_of (λ u. (u < length net.wires) × Leads n w u) (λ u. (u == v) || reads net u v) found (all_within w n) h.1 in leads_step n w some.0 v some.1.1 some.2)) (within net w (suc n))
-      (all_kept (λ v. v < length net.wires) (λ v. list_any (λ u. (u == v) || reads net u v) found) (wire_numbers net) (range_below 0 (length net.wires) (length net.wires) (omega arith)))
 
 module _ (net : PlainNet) (ranked : Ranked net) (f g : ℕ → Bool) where
   -- the sources that lead to the wire within n reads have the same bits
