@@ -40,3 +40,13 @@ joined_net = record {
   registers = [];
   clock = Some 0;
 }
+
+-- share 0 of x, and nothing else
+abbrev pub share_net : PlainNet
+share_net = record {
+  ports = one_bit (codes "agm_s0_x") Input 0 ∷ [];
+  wires = codes "agm_s0_x" ∷ [];
+  lines = [];
+  registers = [];
+  clock = None;
+}

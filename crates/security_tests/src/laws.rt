@@ -2,7 +2,7 @@
 
 ghost use Rattle.std.specs.Prelude.{◌≡◌, ◌∷◌, ℕ, true, false, List, [], map, replicate};
 ghost use Rattle.probe_cones.specs.Cone.{cone};
-ghost use Rattle.security_tests.specs.Nets.{joined_net, probe, stored_net};
+ghost use Rattle.security_tests.specs.Nets.{joined_net, probe, share_net, stored_net};
 ghost use Rattle.twin_tape.specs.Security.{Pini, seen};
 ghost use Rattle.twin_tape.specs.Tapes.{tapes};
 
@@ -27,4 +27,9 @@ pub fn a_glitch_tells()
 /// So that net doesn't isolate one probe.
 pub fn one_equation_is_not_isolated()
     ensures { Pini joined_net 1 → ⊥ }
+{}
+
+/// One wire of one share isolates probes, at every order.
+pub fn one_share_is_isolated()
+    ensures { (d : ℕ) → Pini share_net d }
 {}

@@ -3,4 +3,7 @@
 
 mod laws;
 
-pub use laws::{a_glitch_tells, cones_are_seen, masked_counts, one_equation_is_not_isolated};
+pub use laws::{
+    a_glitch_tells, cones_are_seen, masked_counts, one_equation_is_not_isolated,
+    one_share_is_isolated,
+};
