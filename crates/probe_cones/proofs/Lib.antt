@@ -1,0 +1,2 @@
+pub mod ShareNames
+pub mod Steps

@@ -1,0 +1,9 @@
+//! The definitions of security at nets that are small enough to compute: what is seen, how often, and where isolation fails.
+#![tactic(auto)]
+
+mod laws;
+
+pub use laws::{
+    a_glitch_tells, cones_are_seen, masked_counts, one_equation_is_not_isolated,
+    one_share_is_isolated,
+};

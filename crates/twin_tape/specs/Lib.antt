@@ -1,0 +1,4 @@
+pub mod Tapes
+pub mod Security
+pub mod Laws
+pub mod Permitted

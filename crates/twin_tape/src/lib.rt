@@ -1,0 +1,10 @@
+//! What it means that probes isolate, and that they tell nothing of secrets; and the laws of counting behind both.
+#![tactic(auto)]
+
+mod laws;
+
+pub use laws::{
+    bijected_counts, each_tape_once, isolation_blinds, joined_and_split, networks_isolate,
+    networks_keep_secrets, permitted_are_few, permitted_isolate, split_and_joined, sums_stay,
+    twins_isolate,
+};
