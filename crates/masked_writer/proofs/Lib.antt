@@ -1,1 +1,4 @@
+pub mod OneReport
+pub mod Stated
 pub mod Texts
+pub mod Words
