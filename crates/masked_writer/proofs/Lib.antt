@@ -1,3 +1,4 @@
+pub mod OneAnswer
 pub mod OneReport
 pub mod Stated
 pub mod Texts
