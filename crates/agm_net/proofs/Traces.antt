@@ -21,7 +21,7 @@ row_has P (row ∷ rows) h zero lt = h.0
 row_has P (row ∷ rows) h (suc t) lt = row_has P rows h.1 t (omega arith)
 
 -- a bit of a row that is given by its places
-image_bit : {X : Type 0} (f : X → Bool) (xs : List X) (row : Row) (n : ℕ) (x : X) → map f xs ≡ row → slice_get xs n ≡ Some x → f x ≡ slice_index_or row n false
+pub image_bit : {X : Type 0} (f : X → Bool) (xs : List X) (row : Row) (n : ℕ) (x : X) → map f xs ≡ row → slice_get xs n ≡ Some x → f x ≡ slice_index_or row n false
 image_bit f xs row n x is at = sym (get_or_from_slice_get (map f xs) n (f x) false (get_image f xs n x at)) ∙ ap (λ r. slice_index_or r n false) is
 
 module _ (net : PlainNet) (well : WellFormed net) (power : Row) (tape table : List Row) where

@@ -4,7 +4,7 @@ ghost use Rattle.std.specs.Prelude.{◌≡◌, ◌<◌, ◌≤◌, ◌↔◌, �
 ghost use Rattle.std.specs.List.{AllByRecursion};
 ghost use Rattle.agm_net.specs.Loop.{reads, HasNoLoop, IsRanked};
 ghost use Rattle.agm_net.specs.Plain.{Line, PlainNet};
-ghost use Rattle.agm_net.specs.Run.{Driver, HasDriver, driver, reads_now, reads_ever, bit_in, run_of, KeepsDrivers, Fits};
+ghost use Rattle.agm_net.specs.Run.{Driver, HasDriver, driver, asked, before, reads_now, reads_ever, bit_in, run_of, KeepsDrivers, Fits};
 ghost use Rattle.agm_net.specs.Small.{InOrder, IsFresh};
 ghost use Rattle.agm_net.specs.Trace.{Row, Holds, row_at, bit_at, IsTrace};
 ghost use Rattle.agm_net.specs.WellFormed.{WellFormed};
@@ -37,6 +37,12 @@ pub fn loops_have_no_ranks()
 /// A table is a trace of a net exactly where each wire keeps what its driver asks for.
 pub fn keeps_drivers()
     ensures { (net : PlainNet) (power : Row) (tape table : List Row) → WellFormed net → Fits net power tape → (IsTrace net power tape table ↔ KeepsDrivers net power tape table) }
+{}
+
+/// In the run of a net without a loop each wire keeps what its driver asks for, also behind the end of the tape, where rows are empty.
+pub fn run_keeps_drivers()
+    ensures { (net : PlainNet) (power : Row) (tape : List Row) (t w : ℕ) → WellFormed net → HasNoLoop net → w < length net.wires →
+        bit_in net power tape t w ≡ asked (driver net w) power tape (before (bit_in net power tape) t) (bit_in net power tape t) t }
 {}
 
 /// The run of a net without a loop is a trace.

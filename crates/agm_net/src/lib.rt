@@ -15,7 +15,7 @@ pub use expr::{Equation, Expr, Register, is_within, not_of, xor_of};
 pub use laws::{
     drivers_read_alike, drivers_read_wires, each_wire_is_driven, keeps_drivers,
     loops_have_no_ranks, one_driver, one_solution, one_trace, order_has_no_loop, run_is_trace,
-    runs_look_back, trace_has_bits,
+    run_keeps_drivers, runs_look_back, trace_has_bits,
 };
 pub use mark::{Mark, Marks, Role};
 pub use net::{Net, NewNet};

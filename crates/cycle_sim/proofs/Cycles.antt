@@ -7,16 +7,17 @@ use Rattle.agm_net.specs.Formula.{value, stands, reads_below}
 use Rattle.agm_net.specs.Plain.{PlainNet, Stored, input_bits}
 use Rattle.agm_net.specs.Trace.{Row, row_at, bit_at, IsTrace}
 use Rattle.agm_net.specs.WellFormed.{WellFormed}
+use Rattle.agm_net.proofs.Formulas.{reads_are_below, same_value}
+use Rattle.agm_net.proofs.Lists.{all_of_one, get_image}
 use Rattle.logic_graph.specs.declared.nodes.Node.{Node}
 use Rattle.logic_graph.specs.declared.nodes.Node.TheVariants.{Zero, One, Input, Q, Not, Xor, And, Or, Mux}
 use Rattle.logic_graph.specs.declared.graphs.Graph.{Graph}
 use Rattle.logic_graph.specs.Settled.{bit_of, IsSettled}
 use Rattle.logic_graph.specs.GraphOf.{IsGraphOf, drawing_of, output_bits}
 use Rattle.logic_graph.specs.Traces.{held, Computes}
-use Rattle.logic_graph.proofs.Values.{same_value, wire_bit, stood}
-use Rattle.logic_graph.proofs.GraphMade.{reads_are_below, next_reads, get_image}
-use Rattle.logic_graph.proofs.OneTrace.{next_held, held_at}
-use Rattle.logic_graph.proofs.Lists.{all_of_one}
+use Rattle.logic_graph.proofs.Values.{wire_bit, stood}
+use Rattle.logic_graph.proofs.GraphMade.{next_reads}
+use Rattle.logic_graph.proofs.Held.{next_held, held_at}
 use Rattle.cycle_sim.specs.Fits.{sources_fit}
 use Rattle.cycle_sim.specs.HasRun.{HasRun}
 use Rattle.cycle_sim.specs.Moved.{HasTakenOver, HasSettled}
@@ -52,7 +53,7 @@ get_dropped (x ∷ xs) (suc n) i = let same : suc n + i ≡ suc (n + i) = omega 
 
 -- the values of the sinks of registers are what the registers hold in the cycle behind
 pub sinks_next : (net : PlainNet) (g : Graph) (inputs registers values : Row) (bit : ℕ → Bool) (n : ℕ) → WellFormed net → IsGraphOf net g → IsSettled g.nodes inputs registers values → n ≡ length (output_bits net)
-    → ((w : ℕ) → w < length net.wires → bit w ≡ wire_bit g.of_wire values w) → map (λ s. bit_of values s) (drop n g.sinks) ≡ next_held net bit
+    → ((w : ℕ) → w < length net.wires → bit w ≡ wire_bit g.of_wire (bit_of values) w) → map (λ s. bit_of values s) (drop n g.sinks) ≡ next_held net bit
 sinks_next net g inputs registers values bit n well graph s en same =
     images_same (λ (r : Stored). value bit r.next) (λ k. bit_of values k) net.registers (drop n g.sinks) (let count = graph.sinks in let rest = length-drop n g.sinks in omega arith) (λ i r at. (
     let next = graph.next i r at in
@@ -60,7 +61,7 @@ sinks_next net g inputs registers values bit n well graph s en same =
     let place : n + i ≡ length (output_bits net) + i = omega arith in (
       next.0,
       get_dropped g.sinks n i ∙ (ap (slice_get g.sinks) place ∙ next.1),
-      same_value bit (wire_bit g.of_wire values) r.next (λ w stood_w. same w (reads_are_below (length net.wires) r.next reads w stood_w)) ∙ stood (drawing_of g) inputs registers values s r.next _ next.0 next.2,
+      same_value bit (wire_bit g.of_wire (bit_of values)) r.next (λ w stood_w. same w (reads_are_below (length net.wires) r.next reads w stood_w)) ∙ stood (drawing_of g) (bit_of inputs) (bit_of registers) (bit_of values) s.is_value r.next _ next.0 next.2,
     )))
 
 -- a tape with one row more
@@ -96,7 +97,7 @@ row_behind (r ∷ rs) x tail = row_behind rs x tail
 
 -- what the bits of a cycle are, by the values of a simulator that has run it
 pub last_bits : (net : PlainNet) (power : Row) (before : List Row) (last : Row) (sim : Sim) → HasRun net power (before ++ last ∷ []) sim → (tail table : List Row) → IsTrace net power (before ++ last ∷ tail) table
-    → length before < length table → (w : ℕ) → w < length net.wires → bit_at table (length before) w ≡ wire_bit sim.graph.of_wire sim.values w
+    → length before < length table → (w : ℕ) → w < length net.wires → bit_at table (length before) w ≡ wire_bit sim.graph.of_wire (bit_of sim.values) w
 last_bits net power before last sim h tail table trace lt w lw =
     let ran = h.run before last refl in
     let same = ran.2 (last ∷ tail) table trace lt in
@@ -170,7 +171,7 @@ next_runs net power tape row old mid now t s going h =
 
 -- the value of a wire in the last row
 pub last_value : (net : PlainNet) (power : Row) (before : List Row) (last : Row) (table : List Row) (sim : Sim) (wire : ℕ) → HasRun net power (before ++ last ∷ []) sim → IsTrace net power (before ++ last ∷ []) table
-    → wire < length sim.graph.of_wire → wire_bit sim.graph.of_wire sim.values wire ≡ bit_at table (length before) wire
+    → wire < length sim.graph.of_wire → wire_bit sim.graph.of_wire (bit_of sim.values) wire ≡ bit_at table (length before) wire
 last_value net power before last table sim wire h trace lt =
     let wires = h.graph_of.wires in
     let long = trace.as_long ∙ length-append before (last ∷ []) in

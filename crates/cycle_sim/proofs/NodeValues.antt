@@ -34,7 +34,7 @@ reads_later j k (Mux s a b) le h =
     and_from (nat_lt s k) (nat_lt a k && nat_lt b k) (lt-ltb s k (omega arith)) (two_later j k a b le all.1)
 
 -- one more value
-pub value_more : (nodes : List Node) (inputs registers values : Row) (k : ℕ) (x : Bool) → ((j : ℕ) (n : Node) → slice_get nodes j ≡ Some n → IsTrue (reads_before j n)) → k < length values
+pub value_more : (nodes : List Node) (inputs registers : ℕ → Bool) (values : Row) (k : ℕ) (x : Bool) → ((j : ℕ) (n : Node) → slice_get nodes j ≡ Some n → IsTrue (reads_before j n)) → k < length values
     → ((n : Node) → slice_get nodes k ≡ Some n → x ≡ node_value inputs registers (bit_of values) n)
     → ((j : ℕ) (n : Node) → j < k → slice_get nodes j ≡ Some n → bit_of values j ≡ node_value inputs registers (bit_of values) n)
     → (j : ℕ) (n : Node) → j < k + 1 → slice_get nodes j ≡ Some n → bit_of (slice_set values k x) j ≡ node_value inputs registers (bit_of (slice_set values k x)) n

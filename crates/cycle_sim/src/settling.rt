@@ -19,7 +19,7 @@ use std::alloc::Global;
 fn value_of(node: Node, inputs: &[bool], registers: &[bool], values: &[bool]) -> bool
     requires in_order { IsTrue (reads_before (length values.now) node) }
     requires sources { IsTrue (sources_fit (length inputs.now) (length registers.now) node) }
-    ensures { result ≡ node_value inputs.now registers.now (bit_of values.now) node }
+    ensures { result ≡ node_value (bit_of inputs.now) (bit_of registers.now) (bit_of values.now) node }
 {
     match node {
         Node::Zero => false,

@@ -6,49 +6,27 @@ use Rattle.std.proofs.lemmas.List.{length-map, length-take, length-drop, take-ap
 use Rattle.std.proofs.lemmas.List.Sums.{sum_by-append, sum_by-cons}
 use Rattle.std.proofs.Math.Seq.{take-append-add}
 use Rattle.std.proofs.lemmas.Option.{slice_get-get_or, slice_get_within, get_or_from_slice_get}
-use Rattle.agm_net.specs.Formula.{Formula, f_zero, f_one, f_wire, f_not, f_and, f_or, f_xor, f_mux, stands, reads_below}
+use Rattle.agm_net.specs.Formula.{Formula, f_zero, stands, reads_below}
 use Rattle.agm_net.specs.Plain.{Line, Stored, PlainNet, input_bits, clock_bits, is_input}
 use Rattle.agm_net.specs.WellFormed.{WellFormed}
-use Rattle.agm_net.specs.Small.{ReadsKnown}
+use Rattle.agm_net.specs.Small.{ReadsKnown, IsFresh}
+use Rattle.agm_net.proofs.Lists.{all_of_one, any_at, count_some, get_image}
+use Rattle.agm_net.proofs.Formulas.{reads_are_below}
+use Rattle.agm_net.proofs.Wires.{clock_is_wire, inputs_are_wires, one_way, ports_bits, registers_fit, some_bits, times_outputs}
 use Rattle.logic_graph.specs.declared.nodes.Node.{Node}
 use Rattle.logic_graph.specs.declared.nodes.Node.TheVariants.{Zero, One, Input, Q}
 use Rattle.logic_graph.specs.declared.graphs.Graph.{Graph}
 use Rattle.logic_graph.specs.Nodes.{is_operator}
 use Rattle.logic_graph.specs.Operators.{operators, first_number}
-use Rattle.logic_graph.specs.Searching.{IsOrder, IsFresh, is_set, is_unset, line_at}
+use Rattle.logic_graph.specs.Searching.{IsOrder, is_set, is_unset, line_at}
 use Rattle.logic_graph.specs.GraphOf.{Stands, HasNode, drawing_of, output_bits, IsGraphOf}
 use Rattle.logic_graph.specs.Drawn.{source_drawing, line_formulas, next_formulas, line_drawing, net_drawing, Job, jobs, next_jobs, starts, behind}
 use Rattle.logic_graph.specs.Made.{IsMade}
-use Rattle.logic_graph.proofs.Lists.{count_some, any_at, all_of_one}
 use Rattle.logic_graph.proofs.Places.{get_front, get_back}
 use Rattle.logic_graph.proofs.Jobs.{IsRead, jobs_add, jobs_stand, known_kept, lines_of, job_numbers}
 use Rattle.logic_graph.proofs.Sums.{total}
 use Rattle.logic_graph.proofs.Turns.{all_pass_at}
-use Rattle.logic_graph.proofs.Wires.{one_driver, times_outputs, inputs_are_wires, clock_is_wire, registers_fit, ports_bits, some_bits}
 use Rattle.logic_graph.proofs.NetDrawing.{sourced, net_is_sound, behind_total, each_wire, among, all_qs}
-
--- a wire that stands in a formula over the wires below n is below n
-pub reads_are_below : (n : ℕ) (f : Formula) → IsTrue (reads_below n f) → (w : ℕ) → IsTrue (stands w f) → w < n
-reads_are_below n f_zero below w h = absurd (let no : false ≡ true = h in cc)
-reads_are_below n f_one below w h = absurd (let no : false ≡ true = h in cc)
-reads_are_below n (f_wire v) below w h = let same : v ≡ w = eqb-true v w h in ltb-true w n (ap (λ u. nat_lt u n) (sym same) ∙ below)
-reads_are_below n (f_not f) below w h = reads_are_below n f below w h
-reads_are_below n (f_and f g) below w h =
-    let both = and_parts (reads_below n f) (reads_below n g) below in
-    elim (or_cases (stands w f) (stands w g) h) [ inl left ↦ reads_are_below n f both.0 w left | inr right ↦ reads_are_below n g both.1 w right ]
-reads_are_below n (f_or f g) below w h =
-    let both = and_parts (reads_below n f) (reads_below n g) below in
-    elim (or_cases (stands w f) (stands w g) h) [ inl left ↦ reads_are_below n f both.0 w left | inr right ↦ reads_are_below n g both.1 w right ]
-reads_are_below n (f_xor f g) below w h =
-    let both = and_parts (reads_below n f) (reads_below n g) below in
-    elim (or_cases (stands w f) (stands w g) h) [ inl left ↦ reads_are_below n f both.0 w left | inr right ↦ reads_are_below n g both.1 w right ]
-reads_are_below n (f_mux s f g) below w h =
-    let all = and_parts (reads_below n s) (reads_below n f && reads_below n g) below in
-    let both = and_parts (reads_below n f) (reads_below n g) all.1 in
-    elim (or_cases (stands w s) (stands w f || stands w g) h) [
-      | inl test ↦ reads_are_below n s all.0 w test
-      | inr rest ↦ elim (or_cases (stands w f) (stands w g) rest) [ inl left ↦ reads_are_below n f both.0 w left | inr right ↦ reads_are_below n g both.1 w right ]
-    ]
 
 -- the first items of a list
 get_taken : (xs : List ℕ) (n w : ℕ) → w < n → w < length xs → slice_get (take n xs) w ≡ Some (get_or xs w 0)
@@ -61,11 +39,6 @@ get_dropped : (xs : List ℕ) (n i : ℕ) → slice_get (drop n xs) i ≡ slice_
 get_dropped xs zero i = ap (slice_get xs) (sym (zero-add i))
 get_dropped [] (suc n) i = refl
 get_dropped (x ∷ xs) (suc n) i = let same : suc n + i ≡ suc (n + i) = omega arith in get_dropped xs n i ∙ ap (slice_get (x ∷ xs)) (sym same)
-
-pub get_image : {X Y : Type 0} (f : X → Y) (xs : List X) (i : ℕ) (x : X) → slice_get xs i ≡ Some x → slice_get (map f xs) i ≡ Some (f x)
-get_image f [] i x at = absurd (cc)
-get_image f (y ∷ ys) zero x at = let same : y ≡ x = cc in ap (λ z. Some (f z)) same
-get_image f (y ∷ ys) (suc i) x at = get_image f ys i x at
 
 -- the first number of each formula
 starts_at : (m : ℕ) (fs : List Formula) (i : ℕ) → i < length fs → slice_get (starts m fs) i ≡ Some (m + total (take i fs))
@@ -131,9 +104,7 @@ next_fits n size w (f ∷ fs) (m ∷ ms) le fits = ((omega arith, (λ v s. lt-lt
 -- the next values read wires
 pub next_reads : (net : PlainNet) → WellFormed net → AllByRecursion (λ f. IsTrue (reads_below (length net.wires) f)) (next_formulas net)
 next_reads net well =
-    let n = length net.wires in
-    let parts = and_parts (list_all (λ l. nat_lt l.0 n && reads_below n l.1) net.lines) (list_all (λ r. nat_lt r.q n && (reads_below n r.next && nat_lt r.clock n)) net.registers) well.in_range in
-    only n net.registers (registers_fit n net.registers parts.1)
+    only (length net.wires) net.registers (registers_fit net well)
   where
     only : (n : ℕ) (rs : List Stored) → AllByRecursion (λ r. (r.q < n) × IsTrue (reads_below n r.next)) rs → AllByRecursion (λ f. IsTrue (reads_below n f)) (map (λ r. r.next) rs)
     only n [] h = tt
@@ -219,7 +190,7 @@ made_graph net order g well h made =
       wires = ap length made.of_wire ∙ wires_kept;
       inputs = λ i w at. (
           let lt = all_of_one (λ v. v < n) bits i w (inputs_are_wires net well) at in
-          let one = one_driver net well w lt in
+          let one = one_way net well w lt in
           let some = count_some (λ v. v == w) bits (any_at (λ v. v == w) bits i w at (eq-eqb w w refl)) in
           (2 + i, lay.unset w lt (no_line net.lines w (omega arith)) ∙ ap Some (source.of_input i w at), lay.node (2 + i) (Input i) (source.input i (slice_get_within bits i w at))));
       registers = λ i r at. (
@@ -227,13 +198,13 @@ made_graph net order g well h made =
           let at' : slice_get qs i ≡ Some r.q = get_image (λ x. x.q) net.registers i r at in
           let w = r.q in
           let lt = all_of_one (λ v. v < n) qs i w (all_qs net well) at' in
-          let one = one_driver net well w lt in
+          let one = one_way net well w lt in
           let some = count_some (λ v. v == w) qs (any_at (λ v. v == w) qs i w at' (eq-eqb w w refl)) in
           let same = times_outputs w net.registers in
           (2 + length bits + i, lay.unset w lt (no_line net.lines w (omega arith)) ∙ ap Some (source.of_q i w at'), lay.node (2 + length bits + i) (Q i) (source.q i (slice_get_within net.registers i r at))));
       clock = each_wire (λ w. HasNode (drawing_of g) w Zero) (clock_bits net) (λ w some.
           let lt = among n (clock_bits net) w (clock_is_wire net well) some in
-          let one = one_driver net well w lt in
+          let one = one_way net well w lt in
           (0, lay.unset w lt (no_line net.lines w (omega arith)) ∙ ap Some (source.of_clock w some), lay.node 0 Zero source.first));
       equations = λ i l at. (
           let lt = slice_get_within net.lines i l at in

@@ -6,11 +6,11 @@ use Rattle.std.proofs.lemmas.List.{get_or-set_same, get_or-set_other}
 use Rattle.std.proofs.Math.ListN.{length-set}
 use Rattle.agm_net.specs.Formula.{Formula, f_zero, f_one, f_wire, f_not, f_and, f_or, f_xor, f_mux, stands}
 use Rattle.agm_net.specs.Plain.{Line}
+use Rattle.agm_net.specs.Small.{IsFresh}
 use Rattle.logic_graph.specs.declared.nodes.Node.{Node}
 use Rattle.logic_graph.specs.declared.nodes.Node.TheVariants.{Zero, One, Not, Mux}
 use Rattle.logic_graph.specs.declared.drawing.Drawing.{Drawing}
 use Rattle.logic_graph.specs.Operators.{operators}
-use Rattle.logic_graph.specs.Searching.{IsFresh}
 use Rattle.logic_graph.specs.GraphOf.{Stands, IsNumbered}
 use Rattle.logic_graph.specs.Drawn.{place, drawn, with_line, Job, with_jobs}
 use Rattle.logic_graph.proofs.Blocks.{length_drawn}

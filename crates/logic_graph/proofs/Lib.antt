@@ -1,4 +1,3 @@
-pub mod Lists
 pub mod Fresh
 pub mod Waiting
 pub mod Turns
@@ -7,11 +6,10 @@ pub mod Blocks
 pub mod Places
 pub mod Jobs
 pub mod Sums
-pub mod Wires
 pub mod SourceNodes
 pub mod NetDrawing
 pub mod GraphMade
 pub mod Values
-pub mod OneTrace
+pub mod Held
 pub mod NetParts
 pub mod NetOrdered

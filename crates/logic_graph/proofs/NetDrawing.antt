@@ -1,9 +1,7 @@
 -- The drawing of a net.
 use Rattle.std.proofs.Common.{◌≡◌, ◌<◌, ◌≤◌, ◌+◌, ◌==◌, ◌++◌, ℕ, zero, suc, Bool, true, false, List, [], ◌∷◌, map, length, length-append, replicate, count_by, slice_get, get_or, Some, IsTrue, refl, sym, ap, ◌∙◌, subst, arith, eq-eqb, inl, inr, zero-add}
 use Rattle.std.specs.List.{AllByRecursion, range_with_len}
-use Rattle.std.proofs.lemmas.Bool.{cases_Bool, eqb-true, and_parts}
-use Rattle.std.proofs.Common.{nat_lt, ◌&&◌}
-use Rattle.std.specs.List.{list_all}
+use Rattle.std.proofs.lemmas.Bool.{cases_Bool, eqb-true}
 use Rattle.agm_net.specs.Formula.{reads_below}
 use Rattle.agm_net.specs.Plain.{Stored}
 use Rattle.std.proofs.lemmas.List.{length-map, length-replicate}
@@ -13,6 +11,8 @@ use Rattle.std.proofs.lemmas.Option.{slice_get-get_or, slice_get_within}
 use Rattle.agm_net.specs.Formula.{Formula}
 use Rattle.agm_net.specs.Plain.{PlainNet, input_bits, clock_bits}
 use Rattle.agm_net.specs.WellFormed.{WellFormed}
+use Rattle.agm_net.proofs.Lists.{all_joined, all_of_one, any_at, count_append, count_no, count_some, count_yes}
+use Rattle.agm_net.proofs.Wires.{clock_is_wire, inputs_are_wires, one_way, registers_fit, times, times_outputs}
 use Rattle.logic_graph.specs.declared.nodes.Node.{Node}
 use Rattle.logic_graph.specs.declared.nodes.Node.TheVariants.{Zero, One, Input, Q}
 use Rattle.logic_graph.specs.declared.drawing.Drawing.{Drawing}
@@ -22,11 +22,9 @@ use Rattle.logic_graph.specs.Searching.{IsOrder}
 use Rattle.logic_graph.specs.Made.{IsSound}
 use Rattle.logic_graph.specs.Sources.{with_sources}
 use Rattle.logic_graph.specs.Drawn.{first_drawing, source_drawing, line_formulas, next_formulas, line_drawing, net_drawing, Job, jobs, next_jobs, with_jobs, with_line, starts, behind}
-use Rattle.logic_graph.proofs.Lists.{count_append, count_yes, count_no, count_some, any_at, all_of_one, all_joined}
 use Rattle.logic_graph.proofs.Places.{in_append, get_back, get_front, AreBelow, AreBehind, behind_at}
 use Rattle.logic_graph.proofs.Jobs.{Adds, jobs_add, job_numbers}
 use Rattle.logic_graph.proofs.Sums.{total, net_jobs, number_once, number_count, one_place}
-use Rattle.logic_graph.proofs.Wires.{times, one_driver, times_outputs, inputs_are_wires, clock_is_wire, registers_fit}
 use Rattle.logic_graph.proofs.SourceNodes.{sources_add}
 
 -- what a node among the constants and sources is
@@ -82,9 +80,7 @@ among n (v ∷ vs) w all some =
 
 pub all_qs : (net : PlainNet) → WellFormed net → AllByRecursion (λ w. w < length net.wires) (map (λ r. r.q) net.registers)
 all_qs net well =
-    let n = length net.wires in
-    let parts = and_parts (list_all (λ l. nat_lt l.0 n && reads_below n l.1) net.lines) (list_all (λ r. nat_lt r.q n && (reads_below n r.next && nat_lt r.clock n)) net.registers) well.in_range in
-    fits net.registers (registers_fit n net.registers parts.1)
+    fits net.registers (registers_fit net well)
   where
     fits : (rs : List Stored) → AllByRecursion (λ r. (r.q < length net.wires) × IsTrue (reads_below (length net.wires) r.next)) rs → AllByRecursion (λ w. w < length net.wires) (map (λ r. r.q) rs)
     fits [] h = tt
@@ -125,7 +121,7 @@ sourced net well =
     let front : length (Zero ∷ One ∷ ins) ≡ 2 + length bits = omega arith in
     let d1_long : length d1.nodes ≡ 2 + length bits = ap length a.nodes ∙ front in
     let fore : List ℕ = 0 ∷ 0 ∷ no_numbers (length bits) in
-    let driven = λ (w : ℕ) (lt : w < n). one_driver net well w lt in
+    let driven = λ (w : ℕ) (lt : w < n). one_way net well w lt in
     let bits_once : (w : ℕ) → times w bits ≤ 1 = λ w. at_most n bits w bits_fit (λ lt. let one = driven w lt in omega arith) in
     let qs_once : (w : ℕ) → times w qs ≤ 1 = λ w. at_most n qs w qs_fit (λ lt. let one = driven w lt in let same = times_outputs w net.registers in omega arith) in
     record {

@@ -1,14 +1,13 @@
 -- What the parts of a net say for its graph.
-use Rattle.std.proofs.Common.{◌≡◌, ◌<◌, ◌≤◌, ◌+◌, ◌++◌, ◌&&◌, ℕ, Bool, List, [], ◌∷◌, All, map, length, count_by, take, drop, IsTrue, nat_lt, refl, sym, ap, ap₂, ◌∙◌, subst, arith, get_or, inl, inr, not, filter, flat_map, ltb-true}
+use Rattle.std.proofs.Common.{◌≡◌, ◌<◌, ◌≤◌, ◌+◌, ◌++◌, ◌&&◌, ℕ, Bool, List, [], ◌∷◌, All, map, length, take, drop, IsTrue, nat_lt, refl, sym, ap, ap₂, ◌∙◌, subst, arith, get_or, inl, inr, not, filter, flat_map, ltb-true}
 use Rattle.std.specs.List.{AllByRecursion, list_all}
-use Rattle.std.proofs.lemmas.Bool.{cases_Bool, eqb-true, false_from_ne_true, both_ways, and_parts, and_from, lt-ltb}
-use Rattle.std.proofs.Common.{zero}
+use Rattle.std.proofs.lemmas.Bool.{cases_Bool, and_parts, and_from, lt-ltb}
+use Rattle.std.proofs.Common.{zero, suc, true, false}
 use Rattle.std.proofs.Math.ListN.{length-set}
 use Rattle.std.proofs.lemmas.List.{length-map, length-replicate}
 use Rattle.std.proofs.lemmas.Option.{slice_get-get_or}
-use Rattle.agm_net.specs.Formula.{Formula, formula_of, reads_below}
+use Rattle.agm_net.specs.Formula.{Formula, f_zero, f_one, f_wire, f_not, f_and, f_or, f_xor, f_mux, formula_of, reads_below}
 use Rattle.agm_net.specs.Plain.{Line, Stored, PlainNet, line_of, stored_of, is_in, is_input, input_bits, ports_but}
-use Rattle.agm_net.specs.WellFormed.{WellFormed}
 use Rattle.agm_net.specs.View.{plain_of}
 use Rattle.agm_net.specs.declared.net.Net.{Net}
 use Rattle.agm_net.specs.declared.port.Port.{Port}
@@ -28,10 +27,23 @@ use Rattle.logic_graph.specs.Sources.{bits_of, goes, with_source, with_sources}
 use Rattle.logic_graph.specs.Drawn.{first_drawing, Job, jobs, next_jobs, with_jobs, with_line, behind, starts, line_formulas, next_formulas, net_drawing, operator_drawing, source_drawing}
 use Rattle.logic_graph.specs.Made.{IsSound, AreParts, sinks_of}
 use Rattle.logic_graph.specs.Operators.{operators}
-use Rattle.std.proofs.Common.{suc, ◌==◌, true, false}
-use Rattle.logic_graph.proofs.Lists.{all_of_one, all_joined, count_no}
-use Rattle.logic_graph.proofs.Wires.{reads_wider, inputs_are_wires, ports_bits, some_bits}
+use Rattle.agm_net.proofs.Lists.{all_joined, all_of_one}
+use Rattle.agm_net.proofs.Wires.{inputs_are_wires, ports_bits, some_bits}
 use Rattle.logic_graph.proofs.NetDrawing.{all_qs}
+
+-- a formula over the wires below m is one over those below n
+pub reads_wider : (m n : ℕ) (f : Formula) → m ≤ n → IsTrue (reads_below m f) → IsTrue (reads_below n f)
+reads_wider m n f_zero le h = refl
+reads_wider m n f_one le h = refl
+reads_wider m n (f_wire w) le h = let lt = ltb-true w m h in lt-ltb w n (omega arith)
+reads_wider m n (f_not x) le h = reads_wider m n x le h
+reads_wider m n (f_and x y) le h = let both = and_parts (reads_below m x) (reads_below m y) h in and_from (reads_below n x) (reads_below n y) (reads_wider m n x le both.0) (reads_wider m n y le both.1)
+reads_wider m n (f_or x y) le h = let both = and_parts (reads_below m x) (reads_below m y) h in and_from (reads_below n x) (reads_below n y) (reads_wider m n x le both.0) (reads_wider m n y le both.1)
+reads_wider m n (f_xor x y) le h = let both = and_parts (reads_below m x) (reads_below m y) h in and_from (reads_below n x) (reads_below n y) (reads_wider m n x le both.0) (reads_wider m n y le both.1)
+reads_wider m n (f_mux s x y) le h =
+    let all = and_parts (reads_below m s) (reads_below m x && reads_below m y) h in
+    let both = and_parts (reads_below m x) (reads_below m y) all.1 in
+    and_from (reads_below n s) (reads_below n x && reads_below n y) (reads_wider m n s le all.0) (and_from (reads_below n x) (reads_below n y) (reads_wider m n x le both.0) (reads_wider m n y le both.1))
 
 -- one spelling of all
 pub all_items : {X : Type 0} (P : X → Type 0) (xs : List X) → AllByRecursion P xs → All P xs
@@ -72,22 +84,6 @@ pub next_fits : (net : Net) (m : ℕ) → length net.wires ≤ m → IsTrue (lis
 next_fits net m le =
     let p = plain_of net in let n = length net.wires in
     next_wider n m net.registers le (and_parts (list_all (λ l. nat_lt l.0 n && reads_below n l.1) p.lines) (list_all (λ r. nat_lt r.q n && (reads_below n r.next && nat_lt r.clock n)) p.registers) net.well_formed.in_range).1
-
--- an equation for each wire at most
-pub lines_once : (net : PlainNet) → WellFormed net → (w : ℕ) → count_by (λ l. l.0 == w) net.lines ≤ 1
-lines_once net well w =
-    elim (cases_Bool (nat_lt w (length net.wires))) [
-      | inl below ↦ (let lt = ltb-true w (length net.wires) below in let one = well.one_driver w lt in omega arith)
-      | inr past ↦ (let none = past_end (length net.wires) net.lines w past (and_parts (fit (length net.wires) net.lines) _ well.in_range).0 in omega arith)
-    ]
-  where
-    past_end : (n : ℕ) (ls : List Line) (w : ℕ) → nat_lt w n ≡ false → IsTrue (fit n ls) → count_by (λ l. l.0 == w) ls ≡ 0
-    past_end n [] w past h = refl
-    past_end n (l ∷ ls) w past h =
-        let parts = and_parts (nat_lt l.0 n && reads_below n l.1) (fit n ls) h in
-        let both = and_parts (nat_lt l.0 n) (reads_below n l.1) parts.0 in
-        count_no (λ k. k.0 == w) l ls (false_from_ne_true (l.0 == w) (λ same. both_ways (nat_lt w n) past (ap (λ v. nat_lt v n) (sym (eqb-true l.0 w same)) ∙ both.0)))
-        ∙ past_end n ls w past parts.1
 
 -- the bits of one way
 goes_in : (way : Way) → goes Input way ≡ is_in way

@@ -8,10 +8,10 @@ use Rattle.std.proofs.lemmas.Option.{slice_get-get_or}
 use Rattle.agm_net.specs.Formula.{reads_below, formula_of}
 use Rattle.agm_net.specs.Plain.{Line, line_of}
 use Rattle.agm_net.specs.declared.expr.Equation.{Equation}
+use Rattle.agm_net.proofs.Lists.{any_at, count_no, count_some, count_yes}
 use Rattle.logic_graph.specs.declared.search.Mark.{Mark}
 use Rattle.logic_graph.specs.declared.search.Mark.TheVariants.{New, Done}
 use Rattle.logic_graph.specs.Searching.{is_set, is_unset, line_at, steps_left, left_at, number_in, marked, State, IsSearch, IsOrder, fit}
-use Rattle.logic_graph.proofs.Lists.{count_yes, count_no, count_some, any_at}
 
 -- equations for wires below n
 pub wires_fit : (n : ℕ) (es : List Equation) → IsTrue (fit n (map line_of es)) → IsTrue (list_all (λ e. nat_lt e.wire n) es)

@@ -4,12 +4,12 @@ use Rattle.std.specs.List.{range_with_len}
 use Rattle.std.proofs.lemmas.Bool.{cases_eq, cases_Bool}
 use Rattle.std.proofs.lemmas.List.{get_or-set_same, get_or-set_other}
 use Rattle.std.proofs.Math.ListN.{length-set}
+use Rattle.agm_net.proofs.Lists.{count_no, count_yes}
+use Rattle.agm_net.proofs.Wires.{times}
 use Rattle.logic_graph.specs.declared.nodes.Node.{Node}
 use Rattle.logic_graph.specs.declared.drawing.Drawing.{Drawing}
 use Rattle.logic_graph.specs.Sources.{with_source, with_sources}
-use Rattle.logic_graph.proofs.Lists.{count_yes, count_no}
 use Rattle.logic_graph.proofs.Places.{AreBelow}
-use Rattle.logic_graph.proofs.Wires.{times}
 
 -- what nodes of wires add to a drawing
 pub record AddsSources (kind : ℕ → Node) (i : ℕ) (ws : List ℕ) (d e : Drawing) : Type 0 where

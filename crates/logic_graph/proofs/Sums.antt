@@ -7,10 +7,11 @@ use Rattle.std.proofs.lemmas.List.FromFn.{length-range_with_len}
 use Rattle.std.proofs.Common.{append_assoc}
 use Rattle.agm_net.specs.Formula.{Formula}
 use Rattle.agm_net.specs.Plain.{Line}
+use Rattle.agm_net.proofs.Lists.{any_at, count_append, count_no, count_some, count_yes}
+use Rattle.agm_net.specs.Small.{IsFresh}
 use Rattle.logic_graph.specs.Operators.{operators}
-use Rattle.logic_graph.specs.Searching.{IsFresh, IsOrder, is_set, line_at, is_unset}
+use Rattle.logic_graph.specs.Searching.{IsOrder, is_set, line_at, is_unset}
 use Rattle.logic_graph.specs.Drawn.{starts, Job, jobs, next_jobs}
-use Rattle.logic_graph.proofs.Lists.{count_yes, count_no, count_append, count_some, any_at}
 use Rattle.logic_graph.proofs.Jobs.{job_numbers}
 
 -- no item stands twice

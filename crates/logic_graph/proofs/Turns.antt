@@ -11,11 +11,12 @@ use Rattle.std.proofs.Math.Seq.{take-suc, take-length}
 use Rattle.agm_net.specs.Formula.{stands, reads_below, f_zero}
 use Rattle.agm_net.specs.declared.expr.Equation.{Equation}
 use Rattle.agm_net.specs.Plain.{Line, line_of}
-use Rattle.agm_net.specs.Loop.{IsChain, last_of}
+use Rattle.agm_net.specs.Loop.{IsChain, last_of, reads_in}
+use Rattle.agm_net.proofs.Lists.{all_joined, any_at, count_append, count_no, count_yes, some_counted}
+use Rattle.agm_net.specs.Small.{IsFresh}
 use Rattle.logic_graph.specs.declared.search.Mark.{Mark}
 use Rattle.logic_graph.specs.declared.search.Mark.TheVariants.{New, Open, Done}
-use Rattle.logic_graph.specs.Searching.{IsFresh, is_set, is_unset, line_at, steps_left, left_at, number_in, new_number, waiting, from_first, State, opened, closed, reads_in, IsPath, IsSearch, NoneBack, HasTurned, IsLoopIn, IsLastOpen, IsAwaited, IsAt, fit}
-use Rattle.logic_graph.proofs.Lists.{all_joined, count_yes, count_no, count_append, some_counted, any_at}
+use Rattle.logic_graph.specs.Searching.{is_set, is_unset, line_at, steps_left, left_at, number_in, new_number, waiting, from_first, State, opened, closed, IsPath, IsSearch, NoneBack, HasTurned, IsLoopIn, IsLastOpen, IsAwaited, IsAt, fit}
 use Rattle.logic_graph.proofs.Fresh.{fresh_more}
 use Rattle.logic_graph.proofs.Waiting.{reads_done, waits_for}
 

@@ -1,20 +1,15 @@
 -- The search for an order of equations, in which each is behind those that it reads.
-use Rattle.std.specs.Prelude.{◌≡◌, ◌<◌, ◌≤◌, ◌+◌, ◌-◌, ◌==◌, ◌++◌, ℕ, Bool, false, not, ◌&&◌, ◌||◌, cond, List, [], ◌∷◌, Option, Some, None, map, take, length, count_by, slice_get, slice_set, slice_index_or, IsTrue, nat_lt, sum_by}
+use Rattle.std.specs.Prelude.{◌≡◌, ◌<◌, ◌≤◌, ◌+◌, ◌-◌, ◌==◌, ◌++◌, ℕ, Bool, not, ◌&&◌, ◌||◌, cond, List, [], ◌∷◌, Option, Some, None, map, take, length, count_by, slice_get, slice_set, slice_index_or, IsTrue, nat_lt, sum_by}
 use Rattle.std.specs.List.{list_any, list_all, AllByRecursion}
-use Rattle.agm_net.specs.Formula.{Formula, f_zero, f_one, f_wire, f_not, f_and, f_or, f_xor, f_mux, stands, reads_below}
+use Rattle.agm_net.specs.Formula.{Formula, f_zero, f_one, f_wire, f_not, f_and, f_or, f_xor, f_mux, reads_below}
 use Rattle.agm_net.specs.Plain.{Line}
-use Rattle.agm_net.specs.Loop.{IsChain, last_of}
-use Rattle.agm_net.specs.Small.{ReadsKnown}
+use Rattle.agm_net.specs.Loop.{reads_in, IsChain, last_of}
+use Rattle.agm_net.specs.Small.{IsFresh}
 use Rattle.logic_graph.specs.declared.ordering.GraphFault.{GraphFault}
 use Rattle.logic_graph.specs.declared.ordering.GraphFault.TheVariants.{Loop, Memory}
 use Rattle.logic_graph.specs.declared.search.Mark.{Mark}
 use Rattle.logic_graph.specs.declared.search.Mark.TheVariants.{New, Open, Done}
 use Rattle.logic_graph.specs.declared.search.Search.{Search}
-
--- equations in order, each for a wire that is not known before, and each reading known wires
-abbrev pub IsFresh : (ℕ → Bool) → List Line → Type 0
-IsFresh known [] = Unit {0}
-IsFresh known (l ∷ ls) = (known l.0 ≡ false) × ReadsKnown known l.1 × IsFresh (λ w. (w == l.0) || known w) ls
 
 -- whether one of some equations is for wire w
 abbrev pub is_set : List Line → ℕ → Bool
@@ -93,10 +88,6 @@ opened s w i = record { marks = slice_set s.marks w (Open i); path = s.path ++ w
 
 abbrev pub closed : State → ℕ → ℕ → State
 closed s w i = record { marks = slice_set s.marks w Done; path = take (length s.path - 1) s.path; order = s.order ++ i ∷ [] }
-
--- whether wire w reads wire v by one of some equations
-abbrev pub reads_in : List Line → ℕ → ℕ → Bool
-reads_in lines w v = list_any (λ l. (l.0 == w) && stands v l.1) lines
 
 -- each wire of a path reads the next
 abbrev pub IsPath : (ℕ → ℕ → Bool) → List ℕ → Type 0

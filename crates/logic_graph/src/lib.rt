@@ -3,6 +3,7 @@
 
 mod drawing;
 mod graphs;
+mod laws;
 mod making;
 mod nodes;
 mod ordering;
@@ -10,6 +11,7 @@ mod search;
 mod sources;
 
 pub use graphs::{Graph, Xan};
+pub use laws::{graphs_tell_bits, nodes_have_values, nodes_settle, traces_have_cycles};
 pub use making::{input_bits, order};
 pub use nodes::{Node, XanNode};
 pub use ordering::GraphFault;

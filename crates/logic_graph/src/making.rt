@@ -6,14 +6,14 @@ ghost use Rattle.agm_net.specs.Formula.{formula_of, reads_below};
 ghost use Rattle.agm_net.specs.Plain.{line_of};
 ghost use Rattle.agm_net.specs.Plain as view;
 ghost use Rattle.agm_net.specs.View.{plain_of};
-ghost use Rattle.agm_net.specs.Loop.{HasNoLoop};
+ghost use Rattle.agm_net.specs.Loop.{HasNoLoop, IsRanked};
 ghost use Rattle.logic_graph.specs.Searching.{IsOrder, fit};
 ghost use Rattle.logic_graph.specs.Drawn.{first_drawing, source_drawing, operator_drawing, net_drawing};
 ghost use Rattle.logic_graph.specs.Sources.{with_sources};
 ghost use Rattle.logic_graph.specs.Made.{IsMade, IsSound, AreParts};
 ghost use Rattle.logic_graph.specs.Ordered.{IsOrdered};
 ghost use Rattle.logic_graph.specs.GraphOf.{IsGraphOf};
-ghost use Rattle.logic_graph.specs.Traces.{Computes, HasOneTrace, IsRanked, TellsLoop};
+ghost use Rattle.logic_graph.specs.Traces.{Computes, HasOneTrace, TellsLoop};
 
 use crate::drawing::{Drawing, equation_numbers, register_numbers};
 use crate::search::sort;

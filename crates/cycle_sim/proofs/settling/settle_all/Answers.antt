@@ -20,8 +20,8 @@ value_of-requires-clause-sources c = c.requires.sources c.loop-k.k _ (slice_get-
 pub loop-k-preserved : goal.loop-k-preserved
 loop-k-preserved c =
     let same = c.loop-k.auto.values in
-    value_more c.args.nodes.now c.args.inputs.now c.args.registers.now c.loop-k.values c.loop-k.k c.value_of.result c.requires.in_order (omega arith)
-    (λ n at. c.value_of.ensures ∙ ap (node_value c.args.inputs.now c.args.registers.now (bit_of c.loop-k.values)) (get_or_from_slice_get c.args.nodes.now c.loop-k.k n Zero at))
+    value_more c.args.nodes.now (bit_of c.args.inputs.now) (bit_of c.args.registers.now) c.loop-k.values c.loop-k.k c.value_of.result c.requires.in_order (omega arith)
+    (λ n at. c.value_of.ensures ∙ ap (node_value (bit_of c.args.inputs.now) (bit_of c.args.registers.now) (bit_of c.loop-k.values)) (get_or_from_slice_get c.args.nodes.now c.loop-k.k n Zero at))
     c.loop-k.invariant
 
 pub returns : goal.returns

@@ -4,4 +4,4 @@ use Rattle.logic_graph.specs.Settled.{bit_of, node_value}
 use Rattle.cycle_sim.proofs.settling.settle_all.Given as goal
 
 abbrev pub invariant-loop-k : goal.invariant-loop-k
-invariant-loop-k l = (j : ℕ) (n : Node) → j < l.k → slice_get l.nodes j ≡ Some n → bit_of l.values j ≡ node_value l.inputs l.registers (bit_of l.values) n
+invariant-loop-k l = (j : ℕ) (n : Node) → j < l.k → slice_get l.nodes j ≡ Some n → bit_of l.values j ≡ node_value (bit_of l.inputs) (bit_of l.registers) (bit_of l.values) n

@@ -1,9 +1,8 @@
 use Rattle.std.proofs.Common.{◌≡◌, ◌<◌, IfOk, length, ap, sym, subst, ◌∙◌}
 use Rattle.agm_net.specs.Plain.{ports_but}
-use Rattle.agm_net.specs.View.{plain_of}
 use Rattle.agm_net.specs.declared.port.Way.TheVariants.{Input}
+use Rattle.agm_net.proofs.Wires.{clock_within}
 use Rattle.logic_graph.specs.Sources.{bits_of}
-use Rattle.logic_graph.proofs.Wires.{clock_within}
 use Rattle.logic_graph.proofs.NetParts.{input_bits_are}
 use Rattle.logic_graph.proofs.making.input_bits.Goals as goal
 

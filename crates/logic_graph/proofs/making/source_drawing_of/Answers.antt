@@ -1,8 +1,8 @@
 use Rattle.std.proofs.Common.{◌≡◌, ◌<◌, ◌+◌, All, IfOk, length, map, ap, sym, subst, ◌∙◌, rules, arith}
 use Rattle.agm_net.specs.declared.port.Way.TheVariants.{Input}
 use Rattle.agm_net.specs.Plain.{ports_but}
+use Rattle.agm_net.proofs.Wires.{clock_within}
 use Rattle.logic_graph.specs.Sources.{bits_of}
-use Rattle.logic_graph.proofs.Wires.{clock_within}
 use Rattle.logic_graph.proofs.NetParts.{all_items, inputs_fit, outputs_fit, sources_are}
 use Rattle.logic_graph.proofs.making.source_drawing_of.Goals as goal
 

@@ -2,7 +2,7 @@ use Rattle.std.proofs.Common.{◌<◌, ℕ, All, List, length, sym, subst}
 use Rattle.std.specs.List.{AllByRecursion}
 use Rattle.agm_net.specs.View.{plain_of}
 use Rattle.agm_net.specs.declared.port.Port.{Port}
-use Rattle.logic_graph.proofs.Wires.{ports_bits}
+use Rattle.agm_net.proofs.Wires.{ports_bits}
 use Rattle.sim_text.proofs.Ports.{ports_within}
 use Rattle.sim_text.proofs.lines.push_line.Goals as goal
 
