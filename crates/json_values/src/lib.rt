@@ -6,6 +6,9 @@ ghost use Rattle.serde_json.specs.View.{view};
 ghost use Rattle.json_values.specs.Json.{json_of};
 ghost use Rattle.json_values.specs.declared.JsonFault.TheVariants as fault;
 
+mod members;
+
+pub use members::{only_member, two_members, whole_number};
 use serde_json::Value;
 use std::alloc::Global;
 
