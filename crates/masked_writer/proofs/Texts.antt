@@ -1,13 +1,14 @@
 -- Facts on the texts of reports.
-use Rattle.std.proofs.Common.{◌≡◌, ◌<◌, ℕ, zero, suc, false, List, [], ◌∷◌, map, refl, IsTrue, arith}
+use Rattle.std.proofs.Common.{◌≡◌, ◌<◌, ◌≤◌, ℕ, zero, suc, false, List, [], ◌∷◌, map, refl, IsTrue, arith}
 use Rattle.std.specs.List.{AllByRecursion}
 use Rattle.std.specs.Str.{IsAscii}
 use Rattle.std.proofs.lemmas.Bool.Decides.{nat_tests}
-use Rattle.serde_json.specs.Data.{array, string}
+use Rattle.serde_json.specs.Data.{array, string, depth, items_depth}
+use Rattle.serde_json.specs.Read.{max_depth}
 use Rattle.serde_json.specs.View.{items_of}
 use Rattle.serde_json.specs.Written.{has_float}
 use Rattle.agm_net.specs.Writable.{IsWritable, is_graphic}
-use Rattle.masked_writer.specs.Report.{report_data}
+use Rattle.masked_writer.specs.Report.{report_data, versioned_data}
 use Rattle.share_wiring.specs.declared.report.Report.{Report}
 
 graphic_below : (b : ℕ) → IsTrue (is_graphic b) → b < 128
@@ -28,5 +29,14 @@ names_no_float (n ∷ ns) = names_no_float ns
 
 -- a report has no number with a fraction
 pub no_float : (r : Report) → has_float (report_data r) ≡ false
-unfolding report_data
+unfolding versioned_data
 no_float r = rw (names_no_float r.ports) refl
+
+names_flat : (names : List (List ℕ)) → items_depth (items_of (map string names)) ≡ 0
+names_flat [] = refl
+names_flat (n ∷ ns) = rw (names_flat ns) refl
+
+-- a report nests arrays in an object
+pub not_deep : (r : Report) → depth (report_data r) ≤ max_depth
+unfolding versioned_data
+not_deep r = rw (names_flat r.ports) (omega arith)

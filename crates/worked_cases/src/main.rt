@@ -9,6 +9,7 @@ ghost use Rattle.agm_shelf.specs.MemoryShelf.{open_name};
 mod agreement;
 mod escapes;
 mod shown_design;
+mod shown_draws;
 mod shown_function;
 mod shown_library;
 mod shown_net;
@@ -19,6 +20,7 @@ mod stage;
 
 use crate::escapes::unescaped;
 use crate::shown_design::design_text;
+use crate::shown_draws::{drawn_text, random_text};
 use crate::shown_function::function_text;
 use crate::shown_library::library_text;
 use crate::shown_net::{agreement_over, net_or_fault, stimulus_over};
@@ -44,6 +46,8 @@ fn of_text(alloc: Global, word: &str, text: &str) -> Result<Option<String>, Fail
         "top" => top_text(alloc, bytes)?,
         "ports" => ports_text(alloc, bytes)?,
         "clock" => clock_text(alloc, bytes)?,
+        "random" => random_text(alloc, text)?,
+        "drawn" => drawn_text(alloc, text)?,
         _ => return Ok(None),
     }))
 }

@@ -1,0 +1,9 @@
+-- JSON values of bytes (RFC 8259).
+use Rattle.std.specs.Prelude.{ℕ, List, Option, None, if◌then◌else◌}
+use Rattle.std.specs.Str.{is_utf8}
+use Rattle.serde_json.specs.Data.{Data}
+use Rattle.serde_json.specs.Read.{read}
+
+-- the value of bytes, where they are JSON in UTF-8
+abbrev pub json_of : List ℕ → Option Data
+json_of bytes = if is_utf8 bytes then read bytes else None

@@ -1,0 +1,12 @@
+//! Lists of probes and share indices, read from JSON.
+#![tactic(auto)]
+
+mod checks;
+mod fault;
+mod probes;
+mod reading;
+mod texts;
+
+pub use fault::{ProbeCause, ProbeFault};
+pub use probes::{Probe, Probes};
+pub use reading::read_probes;
