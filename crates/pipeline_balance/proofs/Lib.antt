@@ -15,3 +15,4 @@ pub mod Noding
 pub mod Filling
 pub mod Registering
 pub mod Piping
+pub mod Raising

@@ -12,3 +12,4 @@ pub mod Ranks
 pub mod Chained
 pub mod Registered
 pub mod Piped
+pub mod Reaching

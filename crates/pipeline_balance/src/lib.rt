@@ -2,6 +2,7 @@
 #![tactic(auto)]
 
 mod chains;
+mod lasts;
 mod laws;
 mod nodes;
 mod pipeline;
@@ -9,6 +10,7 @@ mod registers;
 mod values;
 
 pub use chains::{Chain, Layout};
+pub use lasts::last_levels;
 pub use laws::{pipelined_is_same, pipelines_are_right, toggle_is_driven, traces_are_runs};
 pub use nodes::make_nodes;
 pub use pipeline::make_pipeline;
