@@ -1,8 +1,8 @@
 -- Registers that are held and closed.
-use Rattle.std.proofs.Common.{◌≡◌, ◌≢◌, ◌<◌, ◌≤◌, ◌+◌, ◌++◌, ℕ, zero, suc, Bool, false, List, [], ◌∷◌, ◌⊎◌, get_or, length, length-append, take, drop, map, refl, sym, ap, ap₂, subst, subst₂, inl, inr, ◌∙◌, arith}
+use Rattle.std.proofs.Common.{◌≡◌, ◌-◌, ◌≢◌, ◌<◌, ◌≤◌, ◌+◌, ◌++◌, ℕ, zero, suc, Bool, false, List, [], ◌∷◌, ◌⊎◌, get_or, length, length-append, take, drop, map, refl, sym, ap, ap₂, subst, subst₂, inl, inr, ◌∙◌, arith}
 use Rattle.std.proofs.lemmas.Bool.{cases_lt}
 use Rattle.std.proofs.lemmas.List.{take-append-drop, map-append}
-use Rattle.agm_net.specs.Label.{IsPublic, IsOfShare}
+use Rattle.agm_net.specs.Label.{IsPublic, CountsAsShare}
 use Rattle.share_wiring.specs.Wiring.{Wiring, IsSharing, MayBeShare, IsPublicWire, names, source_at, share}
 use Rattle.share_wiring.specs.Own.{closed_wires}
 use Rattle.share_wiring.specs.Adds.{Extends, AddsStep, AddsFact, AreHeld}
@@ -113,7 +113,7 @@ module _ (n : ℕ) (old now new : Wiring) (initial : List (Value n)) (k : ℕ) (
 
 may_names : (ws vs : List Wire) (n i w : ℕ) → names vs ≡ names ws → length vs ≡ length ws → MayBeShare ws n i w → MayBeShare vs n i w
 may_names ws vs n i w e len h =
-    record { within = subst (λ m. w < m) (sym len) h.within; named = subst (λ ns. IsPublic (get_or ns w []) ⊎ ((n ≢ 1) × IsOfShare n i (get_or ns w []))) (sym e) h.named }
+    record { within = subst (λ m. w < m) (sym len) h.within; named = subst (λ ns. IsPublic (get_or ns w []) ⊎ ((n ≢ 1) × CountsAsShare (n - 1) i (get_or ns w []))) (sym e) h.named }
 
 public_names : (ws vs : List Wire) (w : ℕ) → names vs ≡ names ws → length vs ≡ length ws → IsPublicWire ws w → IsPublicWire vs w
 public_names ws vs w e len h = record { within = subst (λ m. w < m) (sym len) h.within; named = subst (λ ns. IsPublic (get_or ns w [])) (sym e) h.named }
