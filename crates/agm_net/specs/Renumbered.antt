@@ -1,5 +1,5 @@
 -- Nets that are the same up to the numbers of their wires.
-use Rattle.std.specs.Prelude.{◌≡◌, ℕ, List, length, map, slice_get}
+use Rattle.std.specs.Prelude.{◌≡◌, ℕ, length, map, slice_get}
 use Rattle.agm_net.specs.Formula.{Formula, f_zero, f_one, f_wire, f_not, f_and, f_or, f_xor, f_mux}
 use Rattle.agm_net.specs.Plain.{Line, Stored, PlainNet}
 use Rattle.agm_net.specs.declared.port.Port.{Port}
