@@ -1,8 +1,8 @@
 -- A wire has one label.
-use Rattle.std.proofs.Common.{◌≡◌, ◌≢◌, ◌<◌, ◌≤◌, ◌+◌, ◌==◌, ◌^◌, ◌++◌, ◌⊎◌, ℕ, zero, suc, Bool, true, false, cond, IsTrue, List, [], ◌∷◌, get_or, codes, Some, None, refl, sym, ap, subst, inl, inr, ◌∙◌, arith}
+use Rattle.std.proofs.Common.{◌≡◌, ◌<◌, ◌+◌, ◌==◌, ◌^◌, ◌++◌, ◌⊎◌, ℕ, zero, suc, true, false, cond, IsTrue, List, [], ◌∷◌, get_or, codes, Some, None, refl, sym, ap, subst, inl, inr, ◌∙◌, arith}
 use Rattle.std.specs.Fmt.{decimal}
 use Rattle.agm_net.specs.Plain.{PlainNet, select_name}
-use Rattle.agm_net.specs.Role.{IsOfShare, share_name, state_name}
+use Rattle.agm_net.specs.Role.{share_name}
 use Rattle.agm_net.specs.Label.{part, name_of, IsBitOf, IsUserName, IsPublicName, IsShareName, IsPart, IsPartName, IsReadByPart, HasLabel, is_share_kind, is_inner_kind, inner_share_name, part_text, part_label}
 use Rattle.agm_net.specs.declared.label.Label.{Label}
 use Rattle.agm_net.specs.declared.label.Label.TheVariants.{Clock, Public, Random, Share, Inner}

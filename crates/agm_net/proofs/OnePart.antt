@@ -1,9 +1,8 @@
 -- The name of a part tells which it is.
-use Rattle.std.proofs.Common.{◌≡◌, ◌≢◌, ◌<◌, ◌≤◌, ◌+◌, ◌-◌, ◌*◌, ◌==◌, ◌^◌, ◌++◌, ◌⊎◌, ℕ, zero, suc, cond, List, [], ◌∷◌, codes, refl, sym, ap, ap₂, subst, inl, inr, ◌∙◌, arith}
-use Rattle.std.specs.List.{AllByRecursion}
+use Rattle.std.proofs.Common.{◌≡◌, ◌<◌, ◌≤◌, ◌+◌, ◌-◌, ◌==◌, ◌^◌, ◌++◌, ℕ, zero, suc, cond, List, [], ◌∷◌, codes, refl, sym, ap, subst, inl, inr, ◌∙◌, arith}
 use Rattle.std.specs.Fmt.{decimal}
 use Rattle.std.proofs.lemmas.Bool.{cases_lt}
-use Rattle.agm_net.specs.Label.{part, part_text, part_name, gadget_name, pairs_before, pair_number, HasNumbers, IsPartName}
+use Rattle.agm_net.specs.Label.{part, part_text, part_name, pairs_before, pair_number, HasNumbers, IsPartName}
 use Rattle.agm_net.specs.declared.label.Part.{Part}
 use Rattle.agm_net.specs.declared.label.PartKind.{PartKind}
 use Rattle.agm_net.specs.declared.label.PartKind.TheVariants.{Clk, A, B, R, Rr, Bb, Vx, V, Na, Ux, U, Wx, W, Mx, M, S, C}

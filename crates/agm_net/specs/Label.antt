@@ -5,7 +5,7 @@ use Rattle.std.specs.Prelude.{◌≡◌, ◌≢◌, ◌≤◌, ◌<◌, ◌+◌,
 use Rattle.std.specs.List.{list_any, flat_map}
 use Rattle.std.specs.Fmt.{decimal}
 use Rattle.agm_net.specs.Plain.{PlainNet, select_name}
-use Rattle.agm_net.specs.Role.{IsOfShare, share_name, state_name}
+use Rattle.agm_net.specs.Role.{IsOfShare}
 use Rattle.agm_net.specs.Run.{driver, reads_ever}
 use Rattle.agm_net.specs.declared.label.Label.{Label}
 use Rattle.agm_net.specs.declared.label.Label.TheVariants.{Clock, Public, Random, Share, Inner}

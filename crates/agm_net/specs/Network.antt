@@ -4,7 +4,7 @@
 use Rattle.std.specs.Prelude.{◌&&◌, ◌≡◌, ◌≤◌, ◌<◌, ◌+◌, ◌-◌, ◌*◌, ◌/◌, ◌%◌, ◌==◌, ◌⊎◌, ◌↔◌, ℕ, cond, nat_lt, min, max, IsTrue, List, length, codes, None, Some, filter, slice_get}
 use Rattle.std.specs.List.{list_any, flat_map}
 use Rattle.std.specs.Str.{bytes_eq}
-use Rattle.agm_net.specs.Formula.{Formula, f_wire, f_not, f_and, f_xor}
+use Rattle.agm_net.specs.Formula.{f_wire, f_not, f_and, f_xor}
 use Rattle.agm_net.specs.Plain.{PlainNet, Stored, is_input, data_ports}
 use Rattle.agm_net.specs.Loop.{HasNoLoop}
 use Rattle.agm_net.specs.Run.{driver, reads_ever, d_clock, d_equation, d_register}

@@ -1,4 +1,4 @@
-use Rattle.std.proofs.Common.{refl, subst}
+use Rattle.std.proofs.Common.{subst}
 use Rattle.agm_net.specs.Label.{HasLabel}
 use Rattle.agm_net.proofs.OneLabel.{random_label}
 use Rattle.agm_net.proofs.label.one_reader.Goals as goal
