@@ -60,7 +60,7 @@ port_long : (name : List ℕ) (a n : ℕ) → length (map (bit_role name) (range
 port_long name a zero = refl
 port_long name a (suc n) = ap suc (port_long name (a + 1) n)
 
-found_small : {X : Type 0} (xs : List X) (n : ℕ) (x : X) → slice_get xs n ≡ Some x → n < length xs
+pub found_small : {X : Type 0} (xs : List X) (n : ℕ) (x : X) → slice_get xs n ≡ Some x → n < length xs
 found_small [] n x e = absurd (let no = e in cc)
 found_small (y ∷ ys) zero x e = omega arith
 found_small (y ∷ ys) (suc n) x e = let h = found_small ys n x e in omega arith

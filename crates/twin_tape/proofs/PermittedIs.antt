@@ -53,7 +53,7 @@ module _ (net : PlainNet) (d : ℕ) (well : WellFormed net) (hpc2 : Hpc2 net d) 
   tag_sight w (l_share i (Some p)) h t = share_sight p.gadget p.kind p.i p.j t h.0 ∙ ap One' h.1
   tag_sight w (l_inner p) h t = inner_same p p.kind t h.0
 
-  same_sights : (label : ℕ → Label) → AreLabels net d label → (T : ℕ) (probes : List Probe) → AreProbes net T probes → sights_of (names net d well hpc2) probes ≡ by_label.sights label probes
+  pub same_sights : (label : ℕ → Label) → AreLabels net d label → (T : ℕ) (probes : List Probe) → AreProbes net T probes → sights_of (names net d well hpc2) probes ≡ by_label.sights label probes
   same_sights label labels T [] inside = refl
   same_sights label labels T (p ∷ probes) inside =
       let here = inside 0 p (omega arith) in
