@@ -1,11 +1,9 @@
 -- Every HPC2 network whose wires are ranked isolates probes.
-use Rattle.std.proofs.Common.{◌≡◌, ◌+◌, ◌≤◌, ℕ, zero, suc, ◌<◌, Bool, true, false, ◌||◌, cond, List, [], ◌∷◌, ◌++◌, map, length, slice_index_or, nat_eq, refl, sym, ap, ap₂, ◌∙◌, subst, arith, flat_map, filter, true≢false, eq-eqb, eqb-true}
-use Rattle.std.proofs.lemmas.Grind.{flat_map-append}
+use Rattle.std.proofs.Common.{◌≡◌, ◌+◌, ◌≤◌, ℕ, zero, suc, ◌<◌, Bool, true, ◌||◌, List, [], ◌∷◌, ◌++◌, map, length, slice_index_or, nat_eq, refl, sym, ap, ap₂, subst, arith, flat_map, eq-eqb}
 use Rattle.agm_net.specs.Plain.{PlainNet}
 use Rattle.agm_net.specs.Trace.{Row, bit_at}
 use Rattle.std.specs.List.{range_with_len}
 use Rattle.probe_cones.specs.Cone.{cone, observed, output_bits_of}
-use Rattle.probe_cones.specs.Shares.{is_share}
 use Rattle.probe_cones.specs.declared.probe.Probe.{Probe}
 use Rattle.twin_tape.proofs.Counting.{length-IsTape}
 use Rattle.twin_tape.proofs.Network.{IsNetwork, IsTwin, Names, sight, sights_of}

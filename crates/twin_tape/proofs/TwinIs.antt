@@ -3,7 +3,7 @@ use Rattle.std.proofs.Common.{◌≡◌, ◌≢◌, ◌<◌, ◌≤◌, ◌+◌,
 use Rattle.std.proofs.lemmas.Bool.{and_parts, or_cases, cases_lt}
 use Rattle.std.specs.List.{list_any, range_with_len}
 use Rattle.agm_net.specs.Formula.{xor}
-use Rattle.agm_net.specs.Label.{part, part_name, name_of, HasLabel, IsPart as IsPartOf}
+use Rattle.agm_net.specs.Label.{part, part_name, HasLabel, IsPart as IsPartOf}
 use Rattle.agm_net.specs.Network.{Hpc2, random_bits_of}
 use Rattle.agm_net.specs.Plain.{PlainNet, input_bits, is_input, data_ports}
 use Rattle.agm_net.specs.Trace.{Row, bit_at}
@@ -18,12 +18,12 @@ use Rattle.agm_net.proofs.OneLabel.{one_label, has_part_label}
 use Rattle.probe_cones.specs.declared.probe.Probe.{Probe}
 use Rattle.twin_tape.specs.Permitted.{AreLabels, has, known, half_change, sights}
 use Rattle.twin_tape.specs.Security.{AreProbes}
-use Rattle.twin_tape.specs.Tapes.{BitRole, random_bit, open_bit, is_random, share_role, bit_role, port_roles, bit_roles, random_width, bit_with}
+use Rattle.twin_tape.specs.Tapes.{BitRole, random_bit, is_random, share_role, bit_role, port_roles, bit_roles, random_width, bit_with}
 use Rattle.twin_tape.specs.Twin as by_label
 use Rattle.twin_tape.specs.Twin.{AreFactors, is_crossing, is_crossing_kind, crossing_seen, pair_change}
-use Rattle.twin_tape.proofs.Bridge.{part_is, wire_named}
+use Rattle.twin_tape.proofs.Bridge.{part_is}
 use Rattle.twin_tape.proofs.Labels.{found_small, label_is, label_at, names, pair_gadget, pair_small, pair_great, part_of_label, random_bits, random_wire, tag, wire_is}
-use Rattle.twin_tape.proofs.Network.{HasPart, IsTwin, Names, RandomBit, Tag, change, half_at, sights_of, stores_seen}
+use Rattle.twin_tape.proofs.Network.{HasPart, IsTwin, Names, RandomBit, change, half_at, sights_of, stores_seen}
 use Rattle.twin_tape.proofs.Parts.{There}
 use Rattle.twin_tape.proofs.PermittedIs.{same_sights}
 use Rattle.twin_tape.proofs.Places.{place_of}

@@ -1,5 +1,5 @@
 -- Twins: there is one, it gives the same observation, and it leads back.
-use Rattle.std.proofs.Common.{◌≡◌, ◌<◌, ℕ, Bool, true, List, [], length, refl, sym, ◌∙◌, subst}
+use Rattle.std.proofs.Common.{◌≡◌, ◌<◌, ℕ, true, List, [], length, sym, ◌∙◌, subst}
 use Rattle.agm_net.specs.Network.{Hpc2}
 use Rattle.agm_net.specs.Plain.{PlainNet}
 use Rattle.agm_net.specs.Trace.{Row, bit_at}

@@ -1,5 +1,5 @@
 -- The twin of a random tape: for inputs that agree on the permitted indices, the tape that gives the second ones what the first give.
-use Rattle.std.specs.Prelude.{◌≡◌, ◌<◌, ◌≤◌, ◌==◌, ℕ, suc, Bool, true, false, ◌&&◌, cond, nat_eq, List, Some, length, slice_get}
+use Rattle.std.specs.Prelude.{◌≡◌, ◌<◌, ◌≤◌, ◌==◌, ℕ, suc, Bool, true, false, ◌&&◌, cond, List, Some, slice_get}
 use Rattle.std.specs.List.{list_any}
 use Rattle.agm_net.specs.Formula.{xor}
 use Rattle.agm_net.specs.Label.{HasLabel, IsPart, part}
@@ -8,7 +8,6 @@ use Rattle.agm_net.specs.Plain.{PlainNet}
 use Rattle.agm_net.specs.Trace.{Row, bit_at}
 use Rattle.agm_net.specs.declared.label.Label.{Label}
 use Rattle.agm_net.specs.declared.label.Label.TheVariants.{Random, Inner as InnerPart}
-use Rattle.agm_net.specs.declared.label.Part.{Part}
 use Rattle.agm_net.specs.declared.label.PartKind.{PartKind}
 use Rattle.agm_net.specs.declared.label.PartKind.TheVariants.{A as KA, B as KB, V as KV, Wx as KWx}
 use Rattle.probe_cones.specs.declared.probe.Probe.{Probe}
