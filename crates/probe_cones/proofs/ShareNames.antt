@@ -5,10 +5,12 @@ use Rattle.std.specs.Fmt.{decimal}
 use Rattle.std.specs.List.{list_all, starts_with}
 use Rattle.std.specs.Str.Parse.{AllDigits, digits_value}
 use Rattle.std.proofs.lemmas.Bool.{and_parts, or_cases, ltb-true}
+use Rattle.std.proofs.lemmas.Bool.Decides.{nat_tests}
+use Rattle.std.proofs.lemmas.Fmt.{decimal_is_IsNumeral}
 use Rattle.std.proofs.lemmas.List.{take-append-drop}
 use Rattle.std.proofs.lemmas.Slice.Eq.{bytes_eq-Decides}
 use Rattle.agm_net.specs.Role.{share_name, state_name}
-use Rattle.agm_net.proofs.ShareIndex.{written}
+use Rattle.agm_net.proofs.ShareIndex.{HasNoLine, decimal_has_no_line, unpadded, written}
 use Rattle.probe_cones.specs.Shares.{is_index, index_of, with_text, before_line, behind_line, share_of}
 use Rattle.probe_cones.specs.Laws.{IsNamed}
 
@@ -80,3 +82,55 @@ share_text name s e = port (starts_with eqb name (codes "agm_s")) refl e
         → cond b (with_text (index_of (before_line (drop 5 name))) (behind_line (drop 5 name))) (cond (starts_with eqb name (codes "agm_q_s")) (option_map {U = ℕ × List ℕ} (λ i. (i, [])) (index_of (drop 7 name))) None) ≡ Some s → IsNamed name s
     port true h e = text_of h (index_of (before_line (drop 5 name))) (behind_line (drop 5 name)) refl refl e
     port false h e = state (starts_with eqb name (codes "agm_q_s")) refl e
+
+-- and each such name is found
+below_true : (a b : ℕ) → a < b → nat_lt a b ≡ true
+below_true a b h = grind (arith, nat_tests)
+
+digits_true : (ds : List ℕ) → AllDigits 10 ds → list_all (λ b. is_digit b 10) ds ≡ true
+digits_true [] h = refl
+digits_true (c ∷ cs) h = ap₂ (λ a b. a && b) (below_true (digit_value c) 10 h.0) (digits_true cs h.1)
+
+alone_true : (c : ℕ) (cs : List ℕ) → (c ≡ 48 → length (c ∷ cs) ≡ 1) → (not (c == 48) || (length cs == 0)) ≡ true
+alone_true c cs h = go (c == 48) refl
+  where
+    go : (b : Bool) → (c == 48) ≡ b → (not b || (length cs == 0)) ≡ true
+    go false e = refl
+    go true e = let one = h (eqb-true c 48 e) in eq-eqb (length cs) 0 (omega arith)
+
+index_true : (ds : List ℕ) (i : ℕ) → AllDigits 10 ds → 0 < length ds → (get_or ds 0 0 ≡ 48 → length ds ≡ 1) → digits_value 10 ds ≡ i → i < 2 ^ 32 → index_of ds ≡ Some i
+index_true [] i all some first value small = absurd (omega arith)
+index_true (c ∷ cs) i all some first value small =
+    let below : digits_value 10 (c ∷ cs) < 2 ^ 32 = subst (λ n. n < 2 ^ 32) (sym value) small in
+    ap (λ b. cond b (Some (digits_value 10 (c ∷ cs))) None)
+    (ap₂ (λ a b. a && b) (digits_true (c ∷ cs) all) (ap₂ (λ a b. a && b) (alone_true c cs first) (below_true (digits_value 10 (c ∷ cs)) (2 ^ 32) below))) ∙
+    ap (λ n. Some n) value
+
+index_decimal : (i : ℕ) → i < 2 ^ 32 → index_of (decimal i) ≡ Some i
+index_decimal i small =
+    let numeral = decimal_is_IsNumeral i (omega arith) in
+    let first = unpadded i small in
+    index_true (decimal i) i numeral.0.1 first.0 first.1 numeral.1 small
+
+cut_front : (front x : List ℕ) → HasNoLine front → (before_line (front ++ 95 ∷ x) ≡ front) × (behind_line (front ++ 95 ∷ x) ≡ x)
+cut_front [] x h = (refl, refl)
+cut_front (c ∷ cs) x h = go (c == 95) refl (cut_front cs x h.1)
+  where
+    go : (b : Bool) → (c == 95) ≡ b → (before_line (cs ++ 95 ∷ x) ≡ cs) × (behind_line (cs ++ 95 ∷ x) ≡ x)
+        → (cond b [] (c ∷ before_line (cs ++ 95 ∷ x)) ≡ c ∷ cs) × (cond b (cs ++ 95 ∷ x) (behind_line (cs ++ 95 ∷ x)) ≡ x)
+    go true e rest = absurd (h.0 (eqb-true c 95 e))
+    go false e rest = (ap (λ l. c ∷ l) rest.0, rest.1)
+
+port_found : (i : ℕ) (x : List ℕ) → i < 2 ^ 32 → 0 < length x → share_of (share_name i x) ≡ Some (i, x)
+port_found i x small some =
+    let cut = cut_front (decimal i) x (decimal_has_no_line i (omega arith)) in
+    ap₂ with_text (ap index_of cut.0 ∙ index_decimal i small) cut.1 ∙ with_some x some
+  where
+    with_some : (x : List ℕ) → 0 < length x → with_text (Some i) x ≡ Some (i, x)
+    with_some [] h = absurd (omega arith)
+    with_some (c ∷ cs) h = refl
+
+pub share_found : (name : List ℕ) (s : ℕ × List ℕ) → IsNamed name s → share_of name ≡ Some s
+share_found name s (small, inl (some, is)) = ap share_of is ∙ port_found s.0 s.1 small some
+share_found name s (small, inr (none, is)) =
+    ap share_of is ∙ (ap (option_map {U = ℕ × List ℕ} (λ i. (i, []))) (index_decimal s.0 small) ∙ ap (λ x. Some (s.0, x)) (sym none))

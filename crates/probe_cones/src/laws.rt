@@ -16,7 +16,7 @@ pub fn cones_are_steps()
         (IsTrue (list_any (λ x. x == v) (cone net w)) ↔ (IsTrue (is_source (driver net v)) × LeadsTo net w v)) }
 {}
 
-/// A share index is found in a name where the name is that of a port with that share.
+/// A share index is found in a name exactly where the name is that of a port with that share.
 pub fn shares_are_named()
-    ensures { (name : List ℕ) (s : ℕ × List ℕ) → share_of name ≡ Some s → IsNamed name s }
+    ensures { (name : List ℕ) (s : ℕ × List ℕ) → (share_of name ≡ Some s) ↔ IsNamed name s }
 {}

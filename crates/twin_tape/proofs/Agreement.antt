@@ -1,5 +1,5 @@
 -- In two runs of an HPC2 network the wires of the shares agree, as long as their inputs and the cross terms do.
-use Rattle.std.proofs.Common.{◌≡◌, ◌≢◌, ℕ, zero, suc, ◌<◌, ◌≤◌, Bool, true, not, ◌&&◌, List, [], ◌∷◌, length, slice_index_or, Some, min, max, refl, sym, ap, ap₂, ◌∙◌, subst, ⊎_elim, arith, true≢false}
+use Rattle.std.proofs.Common.{◌≡◌, ◌≢◌, ℕ, zero, suc, ◌<◌, ◌≤◌, Bool, true, not, ◌&&◌, List, [], ◌∷◌, length, Some, min, max, refl, sym, ap, ap₂, ◌∙◌, subst, ⊎_elim, arith, true≢false}
 use Rattle.std.proofs.lemmas.Bool.{cases_eq}
 use Rattle.agm_net.specs.Formula.{xor}
 use Rattle.agm_net.proofs.Formulas.{same_value}

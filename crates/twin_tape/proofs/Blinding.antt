@@ -140,7 +140,7 @@ length-xor_row [] mask = refl
 length-xor_row (b ∷ row) [] = refl
 length-xor_row (b ∷ row) (m ∷ mask) = ap suc (length-xor_row row mask)
 
-twisted_tape : (R T : ℕ) (mask : List Row → List Row → List Bool) (past made tape : List Row) → IsTape R T tape → IsTape R T (twisted mask past made tape)
+pub twisted_tape : (R T : ℕ) (mask : List Row → List Row → List Bool) (past made tape : List Row) → IsTape R T tape → IsTape R T (twisted mask past made tape)
 twisted_tape R zero mask past made [] is = tt
 twisted_tape R zero mask past made (row ∷ tape) is = absurd is
 twisted_tape R (suc T) mask past made [] is = absurd is

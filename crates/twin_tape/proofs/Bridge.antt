@@ -1,36 +1,12 @@
 -- What the rules of an HPC2 network say of labels and drivers, with a function for both.
-use Rattle.std.proofs.Common.{◌≡◌, ◌≢◌, ◌<◌, ◌≤◌, ◌+◌, ◌*◌, ◌-◌, ◌/◌, ◌%◌, ◌==◌, ◌⊎◌, ◌&&◌, ◌||◌, ◌++◌, ℕ, zero, suc, Bool, true, false, not, cond, List, [], ◌∷◌, Option, Some, None, length, codes, min, max, nat_eq, IsTrue, All, slice_get, slice_index_or, bytes_eq, flat_map, filter, refl, sym, ap, ap₂, ◌∙◌, subst, inl, inr, ⊎_elim, arith, true≢false, eq-eqb, eqb-true}
-use Rattle.std.proofs.lemmas.Bool.{cases_lt, or_cases}
-use Rattle.std.proofs.lemmas.List.Folds.{list_any-append}
-use Rattle.std.proofs.lemmas.Option.{slice_get-get_or, get_or_from_slice_get}
+use Rattle.std.proofs.Common.{◌≡◌, ◌<◌, ◌⊎◌, ℕ, zero, suc, Bool, true, false, cond, List, [], ◌∷◌, Option, Some, None, length, codes, IsTrue, slice_index_or, bytes_eq, refl, sym, ap₂, ◌∙◌, inl, inr, arith, true≢false}
 use Rattle.std.proofs.lemmas.Slice.Eq.{bytes_eq-Decides}
-use Rattle.std.specs.List.{AllByRecursion, list_any, range_with_len}
-use Rattle.agm_net.specs.Formula.{Formula, f_wire, f_not, f_and, f_xor}
-use Rattle.agm_net.specs.Label.{part, part_name, part_label, pair_number, name_of, IsBitOf, IsPart as IsPartOf, IsReadByPart, HasNumbers, HasLabel, MayServe, is_share_kind, is_inner_kind, is_reader}
-use Rattle.agm_net.specs.Network as network
-use Rattle.agm_net.specs.Network.{Hpc2, Recipe, a_share, IsMade, random_bits_of, partial_sum, term}
-use Rattle.agm_net.specs.Plain.{PlainNet, input_bits, is_input, data_ports}
-use Rattle.agm_net.specs.Run.{Driver, d_input, d_clock, d_equation, d_register, d_nothing, driver, Drives}
-use Rattle.agm_net.specs.Run as run
-use Rattle.agm_net.specs.WellFormed.{WellFormed}
-use Rattle.agm_net.specs.declared.label.Label.{Label}
-use Rattle.agm_net.specs.declared.label.Label.TheVariants.{Clock as l_clock, Public as l_public, Random as l_random, Share as l_share, Inner as l_inner}
+use Rattle.agm_net.specs.Label.{part, HasNumbers, is_share_kind}
 use Rattle.agm_net.specs.declared.label.Part.{Part as PartOf}
 use Rattle.agm_net.specs.declared.label.PartKind.{PartKind}
 use Rattle.agm_net.specs.declared.label.PartKind.TheVariants.{Clk as KClk, A as KA, B as KB, R as KR, Rr as KRr, Bb as KBb, Vx as KVx, V as KV, Na as KNa, Ux as KUx, U as KU, Wx as KWx, W as KW, Mx as KMx, M as KM, S as KS, C as KC}
-use Rattle.agm_net.specs.declared.port.Port.{Port}
-use Rattle.agm_net.proofs.Driving.{driven_is_wire, is_driven, is_driver, reads_are_wires}
-use Rattle.agm_net.proofs.Lists.{place_of_any}
-use Rattle.agm_net.proofs.OneLabel.{one_label, has_part_label}
-use Rattle.agm_net.proofs.OnePart.{one_part}
-use Rattle.agm_net.proofs.OneWire.{one_wire, one_part_wire}
-use Rattle.twin_tape.specs.Tapes.{BitRole, random_bit, share_bit, open_bit, is_random, bit_role, share_role, port_roles, bit_roles, roles, random_width}
-use Rattle.twin_tape.specs.Security.{role_at, sees}
-use Rattle.twin_tape.proofs.Heads.{lead, of_port, of_random, of_share_name, headed_lead, headed_one, not_public, part_lead, random_label, random_lead, share_label}
-use Rattle.twin_tape.proofs.Network.{Tag, ClockWire, Public, RandomBit, Plain, Part, part_share, share_of, Names, MayRead, HasPart, Stores, ReadsShare, IsPart, Keeps, IsNetwork}
-use Rattle.twin_tape.proofs.Places.{place_of, placed, ranked_place}
-use Rattle.twin_tape.proofs.PortNames.{IsBitName, IsBit, input_role}
-use Rattle.twin_tape.proofs.Sources.{Source, Input, Random, Clock, Equation, Register, source, source_of, source_at, is_other, rank_in, reads_ever, ever_of, roles_long, inside_reads}
+use Rattle.twin_tape.specs.Tapes.{random_bit, share_bit, open_bit, is_random, bit_role, share_role}
+use Rattle.twin_tape.proofs.Network.{part_share, HasPart}
 
 -- the first wire of a name
 abbrev pub wire_named : List (List ℕ) → List ℕ → ℕ

@@ -1,5 +1,5 @@
 -- The exchange of the worlds undoes the twin.
-use Rattle.std.proofs.Common.{◌≡◌, ◌≢◌, ℕ, suc, ◌<◌, ◌≤◌, Bool, true, false, ◌&&◌, cond, List, length, slice_index_or, nat_eq, refl, sym, ap, ap₂, ◌∙◌, arith, eq-eqb, true≢false}
+use Rattle.std.proofs.Common.{◌≡◌, ◌≢◌, ℕ, suc, ◌<◌, ◌≤◌, Bool, true, false, ◌&&◌, cond, List, length, nat_eq, refl, sym, ap, ap₂, ◌∙◌, arith, eq-eqb, true≢false}
 use Rattle.agm_net.specs.Formula.{xor}
 use Rattle.agm_net.specs.Plain.{PlainNet}
 use Rattle.agm_net.specs.Trace.{Row, bit_at}

@@ -1,8 +1,8 @@
 -- What the first bytes of a name tell of its label.
-use Rattle.std.proofs.Common.{◌≡◌, ◌<◌, ◌+◌, ◌^◌, ◌==◌, ◌⊎◌, ◌++◌, ℕ, Bool, true, false, cond, List, [], ◌∷◌, Option, Some, None, length, codes, slice_index_or, bytes_eq, refl, sym, ap, ◌∙◌, subst, inl, inr, ⊎_elim, arith, append_assoc, append-nil, true≢false}
+use Rattle.std.proofs.Common.{◌≡◌, ◌<◌, ◌^◌, ◌==◌, ◌⊎◌, ◌++◌, ℕ, true, cond, List, [], ◌∷◌, Some, None, codes, slice_index_or, bytes_eq, refl, sym, ap, ◌∙◌, inl, inr, ⊎_elim, arith, append_assoc, append-nil}
 use Rattle.std.specs.Fmt.{decimal}
 use Rattle.std.proofs.lemmas.Slice.Eq.{bytes_eq-Decides}
-use Rattle.agm_net.specs.Label.{name_of, IsBitOf, IsUserName, IsPublicName, IsShareName, IsPart, HasLabel}
+use Rattle.agm_net.specs.Label.{name_of, IsPublicName, IsShareName, IsPart, HasLabel}
 use Rattle.agm_net.specs.Plain.{PlainNet, select_name}
 use Rattle.agm_net.specs.declared.label.Label.{Label}
 use Rattle.agm_net.specs.declared.label.Label.TheVariants.{Clock as l_clock, Public as l_public, Random as l_random, Share as l_share, Inner as l_inner}

@@ -1,11 +1,9 @@
 -- Every HPC2 network whose wires are ranked isolates probes.
-use Rattle.std.proofs.Common.{◌≡◌, ◌+◌, ◌≤◌, ℕ, zero, suc, ◌<◌, Bool, true, false, ◌||◌, cond, List, [], ◌∷◌, ◌++◌, map, length, slice_index_or, nat_eq, refl, sym, ap, ap₂, ◌∙◌, subst, arith, flat_map, filter, true≢false, eq-eqb, eqb-true}
-use Rattle.std.proofs.lemmas.Grind.{flat_map-append}
+use Rattle.std.proofs.Common.{◌≡◌, ◌+◌, ◌≤◌, ℕ, zero, suc, ◌<◌, Bool, true, ◌||◌, List, [], ◌∷◌, ◌++◌, map, length, slice_index_or, nat_eq, refl, sym, ap, ap₂, subst, arith, flat_map, eq-eqb}
 use Rattle.agm_net.specs.Plain.{PlainNet}
 use Rattle.agm_net.specs.Trace.{Row, bit_at}
 use Rattle.std.specs.List.{range_with_len}
 use Rattle.probe_cones.specs.Cone.{cone, observed, output_bits_of}
-use Rattle.probe_cones.specs.Shares.{is_share}
 use Rattle.probe_cones.specs.declared.probe.Probe.{Probe}
 use Rattle.twin_tape.proofs.Counting.{length-IsTape}
 use Rattle.twin_tape.proofs.Network.{IsNetwork, IsTwin, Names, sight, sights_of}
@@ -39,28 +37,31 @@ role_in K L open_bit f e = refl
 role_in K L (share_bit index secret) f e = f index e
 
 -- where inputs agree on permitted shares, the twin of a random tape gives the second ones the observation that it gives the first
+pub twin_sees : (net : PlainNet) (names : Names) (d : ℕ) (hpc2 : IsNetwork net names d) (ranked : Ranked net) (T : ℕ) (probes : List Probe) (A : List ℕ) → AreProbes net T probes → (power : List Bool) (first second : List Row)
+    → ((t n : ℕ) → t < T → n < length (roles net) → sees (known (sights_of names probes) A T 0) (role_at net n) ≡ true → bit_at first t n ≡ bit_at second t n)
+    → (r : List Row) → IsTape (random_width net) T r
+    → observed net probes A T (bit_with net power first r) ≡ observed net probes A T (bit_with net power second (twin_of net names d hpc2 ranked probes A T power first second r))
+twin_sees net names d hpc2 ranked T probes A inside power first second same_in r is =
+    let r' = twin_of net names d hpc2 ranked probes A T power first second r in
+    let x = bit_with net power first r in
+    let y = bit_with net power second r' in
+    let twin : IsTwin net names probes A T power first second r r' = is_twin net names d hpc2 ranked probes A T power first second r is in
+    ap₂ (λ a b. a ++ b)
+    (flat_map-ext (λ probe. map (x probe.cycle) (cone net probe.wire)) (λ probe. map (y probe.cycle) (cone net probe.wire)) probes nil_probe
+    (λ m h. let at = inside m nil_probe h in probe_shows net names d hpc2 ranked probes A T power first second r r' twin same_in m h at.0 at.1))
+    (flat_map-ext (λ i. flat_map (λ t. flat_map (λ w. map (x t) (cone net w)) (output_bits_of net i)) (range_with_len 0 T))
+    (λ i. flat_map (λ t. flat_map (λ w. map (y t) (cone net w)) (output_bits_of net i)) (range_with_len 0 T)) A 0
+    (λ m h. let i = slice_index_or A m 0 in
+    flat_map_range-ext (λ t. flat_map (λ w. map (x t) (cone net w)) (output_bits_of net i)) (λ t. flat_map (λ w. map (y t) (cone net w)) (output_bits_of net i)) 0 T T (omega arith)
+    (λ t below. flat_map-ext (λ w. map (x t) (cone net w)) (λ w. map (y t) (cone net w)) (output_bits_of net i) 0
+    (λ k small. let out = hpc2.outputs i k 0 small in
+    share_shows net names d hpc2 ranked probes A T power first second r r' twin same_in t (slice_index_or (output_bits_of net i) k 0) i below out.0 (has_at A m h) out.1))))
+
 pub twins_of : (net : PlainNet) (names : Names) (d : ℕ) → IsNetwork net names d → Ranked net → (T : ℕ) (probes : List Probe) (A : List ℕ) → AreProbes net T probes → (power : List Bool) (first second : List Row)
     → ((t n : ℕ) → t < T → n < length (roles net) → sees (known (sights_of names probes) A T 0) (role_at net n) ≡ true → bit_at first t n ≡ bit_at second t n)
     → (F : List Row → List Row) × IsCausal (random_width net) T F × ((r : List Row) → IsTape (random_width net) T r → observed net probes A T (bit_with net power first r) ≡ observed net probes A T (bit_with net power second (F r)))
-twins_of net names d hpc2 ranked T probes A inside power first second same_in = (
-  twin_of net names d hpc2 ranked probes A T power first second,
-  twin_causal net names d hpc2 ranked probes A T power first second,
-  λ r is.
-      let r' = twin_of net names d hpc2 ranked probes A T power first second r in
-      let x = bit_with net power first r in
-      let y = bit_with net power second r' in
-      let twin : IsTwin net names probes A T power first second r r' = is_twin net names d hpc2 ranked probes A T power first second r is in
-      ap₂ (λ a b. a ++ b)
-      (flat_map-ext (λ probe. map (x probe.cycle) (cone net probe.wire)) (λ probe. map (y probe.cycle) (cone net probe.wire)) probes nil_probe
-      (λ m h. let at = inside m nil_probe h in probe_shows net names d hpc2 ranked probes A T power first second r r' twin same_in m h at.0 at.1))
-      (flat_map-ext (λ i. flat_map (λ t. flat_map (λ w. map (x t) (cone net w)) (output_bits_of net i)) (range_with_len 0 T))
-      (λ i. flat_map (λ t. flat_map (λ w. map (y t) (cone net w)) (output_bits_of net i)) (range_with_len 0 T)) A 0
-      (λ m h. let i = slice_index_or A m 0 in
-      flat_map_range-ext (λ t. flat_map (λ w. map (x t) (cone net w)) (output_bits_of net i)) (λ t. flat_map (λ w. map (y t) (cone net w)) (output_bits_of net i)) 0 T T (omega arith)
-      (λ t below. flat_map-ext (λ w. map (x t) (cone net w)) (λ w. map (y t) (cone net w)) (output_bits_of net i) 0
-      (λ k small. let out = hpc2.outputs i k 0 small in
-      share_shows net names d hpc2 ranked probes A T power first second r r' twin same_in t (slice_index_or (output_bits_of net i) k 0) i below out.0 (has_at A m h) out.1)))),
-)
+twins_of net names d hpc2 ranked T probes A inside power first second same_in =
+    (twin_of net names d hpc2 ranked probes A T power first second, twin_causal net names d hpc2 ranked probes A T power first second, twin_sees net names d hpc2 ranked T probes A inside power first second same_in)
 
 pub has_twins : (net : PlainNet) (names : Names) (d : ℕ) → IsNetwork net names d → Ranked net → HasTwins net d
 has_twins net names d hpc2 ranked T probes A inside distinct low few =

@@ -1,17 +1,13 @@
 -- The labels of a network as a function, and its random bits with their pairs.
-use Rattle.std.proofs.Common.{◌≡◌, ◌≢◌, ◌<◌, ◌≤◌, ◌+◌, ◌*◌, ◌-◌, ◌/◌, ◌%◌, ◌==◌, ◌⊎◌, ◌&&◌, ◌||◌, ◌++◌, ℕ, zero, suc, Bool, true, false, not, cond, List, [], ◌∷◌, Option, Some, None, length, codes, min, max, nat_eq, IsTrue, All, slice_get, slice_index_or, bytes_eq, flat_map, filter, map, refl, sym, ap, ap₂, ◌∙◌, subst, inl, inr, ⊎_elim, arith, true≢false, eq-eqb, eqb-true}
+use Rattle.std.proofs.Common.{◌≡◌, ◌<◌, ◌≤◌, ◌+◌, ◌==◌, ◌⊎◌, ◌&&◌, ◌++◌, ℕ, zero, suc, Bool, true, false, cond, List, [], ◌∷◌, Some, None, length, codes, slice_get, slice_index_or, bytes_eq, flat_map, filter, map, refl, sym, ap, ap₂, ◌∙◌, subst, inl, inr, ⊎_elim, arith, true≢false, eqb-true}
 use Rattle.std.proofs.lemmas.Bool.{cases_lt, or_cases}
 use Rattle.std.proofs.lemmas.List.Folds.{list_any-append}
-use Rattle.std.proofs.lemmas.Option.{slice_get-get_or, get_or_from_slice_get}
-use Rattle.std.proofs.lemmas.Slice.Eq.{bytes_eq-Decides}
-use Rattle.std.specs.List.{AllByRecursion, list_any, range_with_len}
-use Rattle.agm_net.specs.Formula.{Formula, f_wire, f_not, f_and, f_xor}
-use Rattle.agm_net.specs.Label.{part, part_name, part_label, pair_number, name_of, IsBitOf, IsPart as IsPartOf, IsReadByPart, HasNumbers, HasLabel, MayServe, is_share_kind, is_inner_kind, is_reader}
-use Rattle.agm_net.specs.Network as network
-use Rattle.agm_net.specs.Network.{Hpc2, Recipe, a_share, IsMade, random_bits_of, partial_sum, term}
+use Rattle.std.proofs.lemmas.Option.{slice_get-get_or}
+use Rattle.std.specs.List.{list_any, range_with_len}
+use Rattle.agm_net.specs.Label.{part, part_name, part_label, name_of, IsPart as IsPartOf, HasNumbers, HasLabel}
+use Rattle.agm_net.specs.Network.{Hpc2}
 use Rattle.agm_net.specs.Plain.{PlainNet, input_bits, is_input, data_ports}
-use Rattle.agm_net.specs.Run.{Driver, d_input, d_clock, d_equation, d_register, d_nothing, driver, Drives}
-use Rattle.agm_net.specs.Run as run
+use Rattle.agm_net.specs.Run.{d_input}
 use Rattle.agm_net.specs.WellFormed.{WellFormed}
 use Rattle.agm_net.specs.declared.label.Label.{Label}
 use Rattle.agm_net.specs.declared.label.Label.TheVariants.{Clock as l_clock, Public as l_public, Random as l_random, Share as l_share, Inner as l_inner}
@@ -19,19 +15,18 @@ use Rattle.agm_net.specs.declared.label.Part.{Part as PartOf}
 use Rattle.agm_net.specs.declared.label.PartKind.{PartKind}
 use Rattle.agm_net.specs.declared.label.PartKind.TheVariants.{Clk as KClk, A as KA, B as KB, R as KR, Rr as KRr, Bb as KBb, Vx as KVx, V as KV, Na as KNa, Ux as KUx, U as KU, Wx as KWx, W as KW, Mx as KMx, M as KM, S as KS, C as KC}
 use Rattle.agm_net.specs.declared.port.Port.{Port}
-use Rattle.agm_net.proofs.Driving.{driven_is_wire, is_driven, is_driver, reads_are_wires}
+use Rattle.agm_net.proofs.Driving.{driven_is_wire, is_driver}
 use Rattle.agm_net.proofs.Lists.{place_of_any}
 use Rattle.agm_net.proofs.OneLabel.{one_label, has_part_label}
 use Rattle.agm_net.proofs.OnePart.{one_part}
-use Rattle.agm_net.proofs.OneWire.{one_wire, one_part_wire}
-use Rattle.twin_tape.specs.Tapes.{BitRole, random_bit, share_bit, open_bit, is_random, bit_role, share_role, port_roles, bit_roles, roles, random_width}
-use Rattle.twin_tape.specs.Security.{role_at, sees}
+use Rattle.agm_net.proofs.OneWire.{one_wire}
+use Rattle.twin_tape.specs.Tapes.{BitRole, random_bit, open_bit, is_random, bit_role, share_role, port_roles, bit_roles, random_width}
 use Rattle.twin_tape.proofs.Bridge.{wire_named, named_found, part_is, random_role}
-use Rattle.twin_tape.proofs.Heads.{lead, of_port, of_random, of_share_name, headed_lead, headed_one, not_public, part_lead, random_label, random_lead, share_label}
-use Rattle.twin_tape.proofs.Network.{Tag, ClockWire, Public, RandomBit, Plain, Part, part_share, share_of, Names, MayRead, HasPart, Stores, ReadsShare, IsPart, Keeps, IsNetwork}
-use Rattle.twin_tape.proofs.Places.{place_of, placed, ranked_place}
-use Rattle.twin_tape.proofs.PortNames.{IsBitName, IsBit, input_role}
-use Rattle.twin_tape.proofs.Sources.{Source, Input, Random, Clock, Equation, Register, source, source_of, source_at, is_other, rank_in, reads_ever, ever_of, roles_long, inside_reads}
+use Rattle.twin_tape.proofs.Heads.{lead, of_random, part_lead, random_label}
+use Rattle.twin_tape.proofs.Network.{Tag, ClockWire, Public, RandomBit, Plain, Part, Names}
+use Rattle.twin_tape.proofs.Places.{place_of, placed}
+use Rattle.twin_tape.proofs.PortNames.{input_role}
+use Rattle.twin_tape.proofs.Sources.{Input, Random, source, source_of, is_other, rank_in, roles_long}
 
 pub take_left : {X : Type 0} (xs ys : List X) (m : ℕ) (x : X) → slice_get xs m ≡ Some x → slice_get (xs ++ ys) m ≡ Some x
 take_left [] ys m x e = absurd (let no = e in cc)
@@ -60,7 +55,7 @@ port_long : (name : List ℕ) (a n : ℕ) → length (map (bit_role name) (range
 port_long name a zero = refl
 port_long name a (suc n) = ap suc (port_long name (a + 1) n)
 
-found_small : {X : Type 0} (xs : List X) (n : ℕ) (x : X) → slice_get xs n ≡ Some x → n < length xs
+pub found_small : {X : Type 0} (xs : List X) (n : ℕ) (x : X) → slice_get xs n ≡ Some x → n < length xs
 found_small [] n x e = absurd (let no = e in cc)
 found_small (y ∷ ys) zero x e = omega arith
 found_small (y ∷ ys) (suc n) x e = let h = found_small ys n x e in omega arith

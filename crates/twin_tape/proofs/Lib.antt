@@ -22,9 +22,11 @@ mod ShareReads
 mod Sizes
 mod Sources
 mod Splits
+mod TwinIs
 mod TwinMap
 mod TwinTies
 mod TwinViews
 mod Twins
 mod Views
+mod WholeTwins
 mod Worlds

@@ -1,5 +1,5 @@
 -- HPC2 networks as the proofs see them: what each wire's driver is by its label, with a function for labels and for the wires of parts.
-use Rattle.std.specs.Prelude.{ℕ, zero, suc, ◌*◌, ◌<◌, ◌≤◌, ◌≡◌, ◌≢◌, ◌⊎◌, Bool, true, false, ◌&&◌, ◌||◌, cond, nat_eq, min, max, List, [], ◌∷◌, map, length, IsTrue, Option, Some, None}
+use Rattle.std.specs.Prelude.{ℕ, suc, ◌*◌, ◌<◌, ◌≤◌, ◌≡◌, ◌≢◌, ◌⊎◌, Bool, true, false, ◌&&◌, ◌||◌, cond, nat_eq, min, max, List, [], ◌∷◌, map, length, IsTrue, Option, Some, None}
 use Rattle.std.specs.List.{All, list_any}
 use Rattle.agm_net.specs.Formula.{xor, Formula, f_wire, f_not, f_and, f_xor}
 use Rattle.agm_net.specs.Plain.{PlainNet}
@@ -12,7 +12,7 @@ use Rattle.agm_net.specs.declared.label.PartKind.TheVariants.{Clk as KClk, A as 
 use Rattle.twin_tape.specs.Tapes.{open_bit, roles, random_width, bit_with}
 use Rattle.twin_tape.specs.Security.{sees, role_at}
 use Rattle.twin_tape.specs.Permitted.{Sight, Nobody, One', Inner, has, known, half_change}
-use Rattle.twin_tape.proofs.Sources.{Source, Input, Random, Clock, Equation, Register, source, reads_ever}
+use Rattle.twin_tape.proofs.Sources.{Input, Random, Clock, Equation, Register, source, reads_ever}
 
 -- What a wire's name says: the clock, public, the random bit of a pair, a wire of a share, or a part of a gadget.
 pub data Tag : Type 0 where

@@ -1,16 +1,15 @@
 -- The permitted indices by labels are those of the proof.
-use Rattle.std.proofs.Common.{◌≡◌, ◌<◌, ℕ, zero, suc, Bool, true, false, List, [], ◌∷◌, Option, Some, None, IsTrue, length, map, refl, sym, ap, ap₂, ◌∙◌, subst, inl, inr, arith, true≢false}
-use Rattle.std.specs.List.{All}
-use Rattle.agm_net.specs.Label.{HasLabel, HasNumbers, is_share_kind, is_inner_kind}
+use Rattle.std.proofs.Common.{◌≡◌, ◌<◌, ℕ, suc, true, List, [], ◌∷◌, Some, None, IsTrue, length, refl, sym, ap, ap₂, ◌∙◌, subst, inl, inr, arith, true≢false}
+use Rattle.agm_net.specs.Label.{HasLabel, is_share_kind, is_inner_kind}
 use Rattle.agm_net.specs.Network.{Hpc2}
 use Rattle.agm_net.specs.Plain.{PlainNet}
-use Rattle.agm_net.specs.Trace.{Row, bit_at}
+use Rattle.agm_net.specs.Trace.{Row}
 use Rattle.agm_net.specs.WellFormed.{WellFormed}
 use Rattle.agm_net.specs.declared.label.Label.{Label}
 use Rattle.agm_net.specs.declared.label.Label.TheVariants.{Clock as l_clock, Public as l_public, Random as l_random, Share as l_share, Inner as l_inner}
 use Rattle.agm_net.specs.declared.label.Part.{Part as PartOf}
 use Rattle.agm_net.specs.declared.label.PartKind.{PartKind}
-use Rattle.agm_net.specs.declared.label.PartKind.TheVariants.{Clk as KClk, A as KA, B as KB, R as KR, Rr as KRr, Bb as KBb, Vx as KVx, V as KV, Na as KNa, Ux as KUx, U as KU, Wx as KWx, W as KW, Mx as KMx, M as KM, S as KS, C as KC}
+use Rattle.agm_net.specs.declared.label.PartKind.TheVariants.{Clk as KClk, R as KR, Rr as KRr, Vx as KVx, V as KV, Ux as KUx, Wx as KWx}
 use Rattle.probe_cones.specs.declared.probe.Probe.{Probe}
 use Rattle.twin_tape.specs.Permitted as by_label
 use Rattle.twin_tape.specs.Permitted.{Sight, One', Inner, AreLabels, inner_sight, known, permitted}
@@ -19,7 +18,7 @@ use Rattle.twin_tape.specs.Tapes.{IsTape, roles}
 use Rattle.twin_tape.proofs.Counting.{length-IsTape}
 use Rattle.twin_tape.proofs.Isolation.{twins_of}
 use Rattle.twin_tape.proofs.Labels.{label_is, names, tag}
-use Rattle.twin_tape.proofs.Network.{Names, part_sight, sight, sights_of}
+use Rattle.twin_tape.proofs.Network.{part_sight, sight, sights_of}
 use Rattle.twin_tape.proofs.Rules.{is_network}
 use Rattle.twin_tape.proofs.Sources.{ranked_by}
 use Rattle.twin_tape.proofs.Twins.{seen_same}
@@ -53,7 +52,7 @@ module _ (net : PlainNet) (d : ℕ) (well : WellFormed net) (hpc2 : Hpc2 net d) 
   tag_sight w (l_share i (Some p)) h t = share_sight p.gadget p.kind p.i p.j t h.0 ∙ ap One' h.1
   tag_sight w (l_inner p) h t = inner_same p p.kind t h.0
 
-  same_sights : (label : ℕ → Label) → AreLabels net d label → (T : ℕ) (probes : List Probe) → AreProbes net T probes → sights_of (names net d well hpc2) probes ≡ by_label.sights label probes
+  pub same_sights : (label : ℕ → Label) → AreLabels net d label → (T : ℕ) (probes : List Probe) → AreProbes net T probes → sights_of (names net d well hpc2) probes ≡ by_label.sights label probes
   same_sights label labels T [] inside = refl
   same_sights label labels T (p ∷ probes) inside =
       let here = inside 0 p (omega arith) in

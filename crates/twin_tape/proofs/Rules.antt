@@ -1,12 +1,10 @@
 -- HPC2 networks, as the rules say and as the proofs see them.
-use Rattle.std.proofs.Common.{◌≡◌, ◌≢◌, ◌<◌, ◌≤◌, ◌+◌, ◌^◌, ◌*◌, ◌-◌, ◌/◌, ◌%◌, ◌==◌, ◌⊎◌, ◌&&◌, ◌||◌, ◌++◌, ℕ, zero, suc, Bool, true, false, not, cond, List, [], ◌∷◌, Option, Some, None, length, codes, min, max, nat_eq, IsTrue, All, slice_get, slice_index_or, bytes_eq, flat_map, filter, map, refl, sym, ap, ap₂, ◌∙◌, subst, inl, inr, ⊎_elim, arith, true≢false, eq-eqb, eqb-true}
+use Rattle.std.proofs.Common.{◌≡◌, ◌<◌, ◌≤◌, ◌+◌, ◌^◌, ◌*◌, ◌-◌, ◌%◌, ◌==◌, ◌⊎◌, ◌&&◌, ◌||◌, ◌++◌, ℕ, zero, suc, Bool, true, false, not, cond, List, [], ◌∷◌, Option, Some, None, length, codes, min, max, IsTrue, All, slice_get, slice_index_or, flat_map, filter, refl, sym, ap, ap₂, ◌∙◌, subst, inl, inr, ⊎_elim, arith, true≢false, eq-eqb, eqb-true}
 use Rattle.std.proofs.lemmas.Bool.{cases_lt, or_cases}
-use Rattle.std.proofs.lemmas.List.Folds.{list_any-append}
-use Rattle.std.proofs.lemmas.Option.{slice_get-get_or, get_or_from_slice_get}
-use Rattle.std.proofs.lemmas.Slice.Eq.{bytes_eq-Decides}
-use Rattle.std.specs.List.{AllByRecursion, list_any, range_with_len}
+use Rattle.std.proofs.lemmas.Option.{get_or_from_slice_get}
+use Rattle.std.specs.List.{AllByRecursion, list_any}
 use Rattle.agm_net.specs.Formula.{Formula, f_wire, f_not, f_and, f_xor}
-use Rattle.agm_net.specs.Label.{part, part_name, part_label, pair_number, name_of, IsBitOf, IsPart as IsPartOf, IsReadByPart, HasNumbers, HasLabel, MayServe, is_share_kind, is_inner_kind, is_reader}
+use Rattle.agm_net.specs.Label.{part, part_name, name_of, IsBitOf, IsPart as IsPartOf, HasNumbers, HasLabel, MayServe, is_share_kind, is_reader}
 use Rattle.agm_net.specs.Network as network
 use Rattle.agm_net.specs.Network.{Hpc2, Recipe, inverse, product, sum, stored, a_share, IsMade, random_bits_of, partial_sum, term}
 use Rattle.agm_net.specs.Plain.{PlainNet, input_bits, is_input, data_ports}
@@ -19,26 +17,24 @@ use Rattle.agm_net.specs.declared.label.Part.{Part as PartOf}
 use Rattle.agm_net.specs.declared.label.PartKind.{PartKind}
 use Rattle.agm_net.specs.declared.label.PartKind.TheVariants.{Clk as KClk, A as KA, B as KB, R as KR, Rr as KRr, Bb as KBb, Vx as KVx, V as KV, Na as KNa, Ux as KUx, U as KU, Wx as KWx, W as KW, Mx as KMx, M as KM, S as KS, C as KC}
 use Rattle.agm_net.specs.declared.port.Port.{Port}
-use Rattle.agm_net.proofs.Driving.{driven_is_wire, is_driven, is_driver, reads_are_wires}
+use Rattle.agm_net.proofs.Driving.{is_driven, reads_are_wires}
 use Rattle.agm_net.proofs.Lists.{all_joined}
 use Rattle.agm_net.proofs.Wires.{ports_bits}
-use Rattle.agm_net.proofs.OneLabel.{one_label, has_part_label}
 use Rattle.agm_net.proofs.OnePart.{one_part}
-use Rattle.agm_net.proofs.OneWire.{one_wire, one_part_wire}
 use Rattle.std.specs.Option.{option_map_or}
 use Rattle.std.specs.Fmt.{decimal}
 use Rattle.probe_cones.specs.Shares as shares
 use Rattle.probe_cones.specs.Shares.{is_share}
 use Rattle.probe_cones.specs.Cone.{output_bits_of}
-use Rattle.twin_tape.specs.Tapes.{BitRole, Secret, random_bit, share_bit, open_bit, is_random, bit_role, share_role, port_roles, bit_roles, roles, random_width}
+use Rattle.twin_tape.specs.Tapes.{BitRole, Secret, share_bit, open_bit, is_random, bit_roles, roles}
 use Rattle.twin_tape.specs.Security.{role_at, sees}
 use Rattle.twin_tape.proofs.Bridge.{wire_named, part_is, random_role, other_role, share_kind_is, to_numbers, from_numbers, IsBounded}
-use Rattle.twin_tape.proofs.Heads.{lead, Headed, of_port, of_random, of_share_name, headed_lead, headed_one, not_public, part_lead, random_label, random_lead, share_label}
+use Rattle.twin_tape.proofs.Heads.{lead, Headed, of_port, of_random, of_share_name, headed_lead, headed_one, not_public, random_label, share_label}
 use Rattle.twin_tape.proofs.Labels.{tag, label_at, label_is, label_of_part, part_of_label, random_wire, names, wire_is, random_source, random_bits, found_random, pair_gadget, pair_small, pair_great}
-use Rattle.twin_tape.proofs.Network.{Tag, ClockWire, Public, RandomBit, Plain, Part, part_share, share_of, Names, MayRead, HasPart, Stores, ReadsShare, IsPart, Keeps, IsNetwork}
-use Rattle.twin_tape.proofs.Places.{place_of, placed, ranked_place}
-use Rattle.twin_tape.proofs.PortNames.{IsBitName, IsBit, HasNames, input_role, port_names}
-use Rattle.twin_tape.proofs.Sources.{has_role, past_end, Source, Input, Random, Clock, Equation, Register, source, source_of, source_at, is_other, rank_in, reads_ever, ever_of, roles_long, inside_reads}
+use Rattle.twin_tape.proofs.Network.{Tag, Public, RandomBit, Plain, Part, share_of, Names, MayRead, HasPart, Stores, ReadsShare, IsPart, Keeps, IsNetwork}
+use Rattle.twin_tape.proofs.Places.{ranked_place}
+use Rattle.twin_tape.proofs.PortNames.{IsBitName, HasNames, input_role, port_names}
+use Rattle.twin_tape.proofs.Sources.{has_role, past_end, Input, Random, Equation, Register, source, source_of, is_other, rank_in, reads_ever, ever_of, inside_reads}
 
 module _ (net : PlainNet) (d : ℕ) (well : WellFormed net) (hpc2 : Hpc2 net d) where
   abbrev label : ℕ → Tag

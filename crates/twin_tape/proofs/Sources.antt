@@ -1,6 +1,6 @@
 -- What drives a wire, with the bits of `agm_r` apart from the other input bits.
-use Rattle.std.proofs.Common.{◌≡◌, ◌+◌, ℕ, zero, suc, ◌<◌, ◌≤◌, Bool, true, false, not, cond, List, [], ◌∷◌, ◌++◌, map, length, max, drop, filter, flat_map, slice_index_or, IsTrue, Some, slice_get, refl, sym, ap, ap₂, ◌∙◌, subst, inl, inr, ⊎_elim, arith, true≢false}
-use Rattle.std.proofs.lemmas.Bool.{cases_Bool, cases_lt}
+use Rattle.std.proofs.Common.{◌≡◌, ◌+◌, ℕ, zero, suc, ◌<◌, ◌≤◌, Bool, true, false, not, cond, List, [], ◌∷◌, ◌++◌, map, length, max, drop, filter, flat_map, slice_index_or, Some, slice_get, refl, sym, ap, ap₂, ◌∙◌, ⊎_elim, arith}
+use Rattle.std.proofs.lemmas.Bool.{cases_lt}
 use Rattle.std.specs.List.{range_with_len}
 use Rattle.agm_net.specs.Formula.{Formula, value, stands}
 use Rattle.agm_net.specs.Plain.{PlainNet, input_bits, is_input, data_ports}
@@ -14,7 +14,7 @@ use Rattle.probe_cones.specs.Cone as cone
 use Rattle.agm_net.proofs.Driving.{is_driven, now_is_ever, reads_are_wires, reads_is}
 use Rattle.agm_net.proofs.Ranks.{ranked}
 use Rattle.agm_net.proofs.Runs as runs
-use Rattle.twin_tape.specs.Tapes.{BitRole, random_bit, open_bit, is_random, bit_role, port_roles, bit_roles, roles, random_width, first_bit, joined, with_random, bit_with}
+use Rattle.twin_tape.specs.Tapes.{BitRole, open_bit, is_random, bit_role, port_roles, bit_roles, first_bit, joined, with_random, bit_with}
 
 pub data Source : Type 0 where
   Input : ℕ → Source

@@ -1,5 +1,5 @@
 -- A row of input bits is its random bits and the others, in one way.
-use Rattle.std.proofs.Common.{◌≡◌, ℕ, suc, List, [], ◌∷◌, length, drop, filter, refl, ap, arith}
+use Rattle.std.proofs.Common.{◌≡◌, List, [], ◌∷◌, length, drop, filter, refl, ap, arith}
 use Rattle.agm_net.specs.Trace.{Row}
 use Rattle.twin_tape.specs.Tapes.{BitRole, random_bit, share_bit, open_bit, is_random, joined, picked}
 use Rattle.twin_tape.proofs.Sources.{is_other}

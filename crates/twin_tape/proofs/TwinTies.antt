@@ -1,5 +1,5 @@
 -- The twin of a random tape keeps what is to agree.
-use Rattle.std.proofs.Common.{◌≡◌, ◌≢◌, ℕ, zero, suc, ◌<◌, ◌≤◌, Bool, true, false, not, ◌&&◌, cond, List, [], ◌∷◌, length, slice_index_or, min, max, nat_eq, refl, sym, ap, ap₂, ◌∙◌, subst, inl, inr, ⊎_elim, arith, true≢false, eqb-true, ne_eqb}
+use Rattle.std.proofs.Common.{◌≡◌, ◌≢◌, ℕ, zero, suc, ◌<◌, ◌≤◌, Bool, true, false, not, ◌&&◌, cond, List, [], ◌∷◌, length, min, max, nat_eq, refl, sym, ap, ap₂, ◌∙◌, subst, inl, inr, ⊎_elim, arith, true≢false, eqb-true, ne_eqb}
 use Rattle.std.proofs.lemmas.Bool.{cases_lt, cases_order, cases_Bool, or_cases}
 use Rattle.agm_net.specs.Formula.{xor}
 use Rattle.agm_net.specs.Plain.{PlainNet}

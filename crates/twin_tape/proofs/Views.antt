@@ -1,7 +1,6 @@
 -- What probes see, as lists.
-use Rattle.std.proofs.Common.{◌≡◌, ℕ, zero, suc, ◌<◌, ◌≤◌, ◌+◌, ◌==◌, Bool, true, false, ◌&&◌, ◌||◌, cond, List, [], ◌∷◌, ◌++◌, map, length, slice_index_or, IsTrue, refl, sym, ap, ap₂, ◌∙◌, subst, arith, inl, inr, ⊎_elim, true≢false, eqb-true, flat_map, filter}
-use Rattle.std.proofs.lemmas.Bool.{and_parts, or_cases}
-use Rattle.std.specs.List.{AllByRecursion, list_any, range_with_len}
+use Rattle.std.proofs.Common.{◌≡◌, ℕ, zero, suc, ◌<◌, ◌≤◌, Bool, true, false, ◌||◌, List, [], ◌∷◌, ◌++◌, map, length, slice_index_or, refl, sym, ap, ap₂, ◌∙◌, subst, arith, true≢false, flat_map}
+use Rattle.std.specs.List.{list_any}
 use Rattle.agm_net.specs.Plain.{PlainNet}
 use Rattle.agm_net.specs.Loop.{reads, IsChain, last_of}
 use Rattle.agm_net.specs.Run.{driver}

@@ -7,7 +7,7 @@ use Rattle.agm_net.specs.Trace.{Row, row_at}
 use Rattle.probe_cones.specs.Cone.{observed}
 use Rattle.probe_cones.specs.declared.probe.Probe.{Probe}
 use Rattle.twin_tape.specs.Tapes.{tapes, IsTape, roles, random_width, bit_with}
-use Rattle.twin_tape.specs.Security.{Agree, AreProbes, Pini}
+use Rattle.twin_tape.specs.Security.{Agree, AreProbes}
 
 -- two rows bit by bit; past the end of the second row the first one stays
 abbrev pub xor_row : Row → Row → Row

@@ -1,4 +1,5 @@
-pub mod Tapes
-pub mod Security
 pub mod Laws
 pub mod Permitted
+pub mod Security
+pub mod Tapes
+pub mod Twin

@@ -1,5 +1,5 @@
 -- The indices that probes permit, and by what the twin of a random tape differs from it.
-use Rattle.std.specs.Prelude.{ℕ, zero, suc, ◌-◌, ◌<◌, Bool, true, false, ◌&&◌, cond, nat_eq, List, [], ◌∷◌, length, map, min, max}
+use Rattle.std.specs.Prelude.{ℕ, zero, suc, ◌-◌, ◌<◌, Bool, false, ◌&&◌, cond, nat_eq, List, [], ◌∷◌, length, map, min, max}
 use Rattle.std.specs.List.{list_any}
 use Rattle.agm_net.specs.Formula.{xor}
 use Rattle.agm_net.specs.Label.{HasLabel}

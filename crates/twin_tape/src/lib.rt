@@ -2,9 +2,11 @@
 #![tactic(auto)]
 
 mod laws;
+mod twin_laws;
 
 pub use laws::{
     bijected_counts, each_tape_once, isolation_blinds, joined_and_split, networks_isolate,
     networks_keep_secrets, permitted_are_few, permitted_isolate, split_and_joined, sums_stay,
     twins_isolate,
 };
+pub use twin_laws::{one_twin, twins_are_seen_alike, twins_exist, twins_lead_back};

@@ -1,4 +1,4 @@
-use Rattle.std.proofs.Common.{◌≤◌, ◌∙◌, length, map, subst}
+use Rattle.std.proofs.Common.{◌≤◌, length, subst}
 use Rattle.twin_tape.specs.Permitted.{sight, sights}
 use Rattle.twin_tape.proofs.Sizes.{adds_permitted}
 use Rattle.twin_tape.proofs.TwinViews.{length_map}
