@@ -12,7 +12,7 @@ mod tapes;
 mod texts;
 
 pub use fault::{StimulusCause, StimulusFault};
-pub use laws::texts_are_one;
+pub use laws::{cycles_are_one, texts_are_one};
 pub use reading::read_stimulus;
 pub use stimuli::{Stimulus, Stream};
 pub use tapes::read_tape;
