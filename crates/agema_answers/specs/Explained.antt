@@ -9,7 +9,7 @@ use Rattle.cell_library.specs.declared.types.Bar.TheVariants.{Bus, Latch, StateT
 use Rattle.cell_library.specs.declared.types.CellCause.{CellCause}
 use Rattle.cell_library.specs.declared.types.CellCause.TheVariants.{Duplicate, Reserved}
 use Rattle.stimulus.specs.declared.fault.StimulusCause.{StimulusCause}
-use Rattle.stimulus.specs.declared.fault.StimulusCause.TheVariants.{Json, Shape, Streams, Steps, Initial, Inputs, Bits}
+use Rattle.stimulus.specs.declared.fault.StimulusCause.TheVariants.{Json, Shape, Streams, Steps, Initial, Inputs, Bits, Cycles}
 use Rattle.agema_answers.specs.Status.{status_of}
 use Rattle.agema_answers.specs.declared.ended.Ended.{Ended}
 use Rattle.agema_answers.specs.declared.ended.Ended.TheVariants.{Done, Usage, ReadFault, WriteFault, PrintFault, Memory, Refused}
@@ -46,6 +46,7 @@ stimulus_cause_text Steps = codes "Steps"
 stimulus_cause_text Initial = codes "Initial"
 stimulus_cause_text Inputs = codes "Inputs"
 stimulus_cause_text Bits = codes "Bits"
+stimulus_cause_text Cycles = codes "Cycles"
 
 -- a field with its value, of bytes or a number
 abbrev pub field : (name value : Text) → Text

@@ -50,6 +50,7 @@ fn stimulus_cause_text(cause: StimulusCause) -> &'static [u8]
         StimulusCause::Initial => b"Initial",
         StimulusCause::Inputs => b"Inputs",
         StimulusCause::Bits => b"Bits",
+        StimulusCause::Cycles => b"Cycles",
     }
 }
 

@@ -4,7 +4,8 @@ use Rattle.agm_net.specs.Plain.{PlainNet}
 use Rattle.serde_json.specs.Data.{Data}
 use Rattle.stimulus.specs.Answer.{Answers}
 use Rattle.stimulus.specs.Asked.{inputs_of, all_asked, first_fault}
-use Rattle.stimulus.specs.Written.{json_of, stimulus_data}
+use Rattle.json_values.specs.Json.{json_of}
+use Rattle.stimulus.specs.Written.{stimulus_data}
 use Rattle.stimulus.specs.declared.fault.StimulusCause.{StimulusCause}
 use Rattle.stimulus.specs.declared.fault.StimulusFault.{StimulusFault}
 use Rattle.stimulus.specs.declared.fault.StimulusFault.TheVariants.{Bad}

@@ -5,7 +5,7 @@ use Rattle.annotations.specs.Rules.{clock_rules}
 use Rattle.cell_library.specs.Judged.{PlainCell}
 use Rattle.verilog_reader.specs.Plain.{PlainDesign}
 use Rattle.stimulus.specs.Answer.{Answers}
-use Rattle.stimulus.specs.Written.{json_of}
+use Rattle.json_values.specs.Json.{json_of}
 use Rattle.stimulus.specs.declared.stimuli.Stream.{Stream}
 use Rattle.stimulus.specs.declared.fault.StimulusFault.TheVariants.{Bad}
 use Rattle.sim_text.specs.Text.{IsSimText}

@@ -1,16 +1,16 @@
 -- A stimulus of texts in which nothing that is asked holds fits its net.
-use Rattle.std.proofs.Common.{◌≡◌, ℕ, zero, suc, ◌+◌, ◌<◌, ◌≤◌, ◌++◌, ◌==◌, Bool, true, false, not, ◌||◌, List, [], ◌∷◌, length, map, flat_map, Option, Some, None, IfSome, nat_lt, refl, sym, ap₂, subst, ◌∙◌, arith}
+use Rattle.std.proofs.Common.{◌≡◌, ℕ, zero, suc, ◌+◌, ◌<◌, ◌≤◌, ◌++◌, ◌==◌, Bool, true, false, not, ◌||◌, List, [], ◌∷◌, length, get_or, map, flat_map, Option, Some, None, IfSome, nat_lt, refl, sym, ap, ap₂, subst, ◌∙◌, arith}
 use Rattle.std.specs.List.{AllByRecursion, enumerate_from, list_all}
 use Rattle.std.specs.Option.{option_map_or}
 use Rattle.std.proofs.lemmas.Bool.{both_ways, cases_lt, eqb-true, lt-ltb}
 use Rattle.std.proofs.lemmas.List.{length-map, length-append}
 use mathlib.Core.Logic.{⊎_elim}
-use Rattle.agm_net.specs.Plain.{PlainNet, input_bits}
+use Rattle.agm_net.specs.Plain.{PlainNet}
 use Rattle.agm_net.specs.declared.port.Port.{Port}
 use Rattle.stimulus.proofs.Causes.{none_parts, not_alone}
 use Rattle.stimulus.proofs.Lists.{all_from, both_true}
 use Rattle.stimulus.specs.Answer.{bits_in, row_of, stream_of}
-use Rattle.stimulus.specs.Asked.{Asked, all_asked, asked_of, asked_in, asked_step, asked_whole, are_bits, first_fault, first_steps, has_bits, input_of, input_ports, inputs_of, is_bit, streams_asked, text_at}
+use Rattle.stimulus.specs.Asked.{Asked, all_asked, asked_of, asked_in, asked_step, asked_whole, asked_cycles, cycles_asked, tape_asked, tape_inputs, tape_ports, are_bits, first_fault, first_steps, has_bits, input_of, input_ports, inputs_of, is_bit, streams_asked, text_at}
 use Rattle.stimulus.specs.Fits.{Fits, StreamFits}
 use Rattle.stimulus.specs.declared.fault.StimulusCause.{StimulusCause}
 use Rattle.stimulus.specs.declared.fault.StimulusCause.TheVariants.{Steps, Initial, Inputs, Bits}
@@ -45,13 +45,13 @@ row_long (p ∷ ps) step h =
     let own : length (bits_in (text_at step p.name)) ≡ length p.bits = length-map (text_at step p.name) (λ c. c == 49) ∙ as_many (length p.bits) (text_at step p.name) parts.0 in
     length-append (bits_in (text_at step p.name)) (row_of (map input_of ps) step) ∙ ap₂ (λ (m n : ℕ). m + n) own (row_long ps step parts.1) ∙ sym (length-append p.bits (flat_map (λ (q : Port). q.bits) ps))
 
--- the rows of a stream's steps
-rows_fit : (net : PlainNet) (stream k : ℕ) (steps : List (List Member)) → first_fault (map (asked_step (inputs_of net) Bits stream) (enumerate_from k steps)) ≡ None → AllByRecursion (λ row. length row ≡ length (input_bits net)) (map (row_of (inputs_of net)) steps)
-rows_fit net stream k [] h = tt
-rows_fit net stream k (s ∷ ss) h =
-    let own = asked_step (inputs_of net) Bits stream (k, s) in
-    let parts = none_parts (own ∷ []) (map (asked_step (inputs_of net) Bits stream) (enumerate_from (k + 1) ss)) h in
-    (row_long (input_ports net) s (from_not (has_bits (inputs_of net) s) (not_alone own parts.0)), rows_fit net stream (k + 1) ss parts.1)
+-- the rows of steps
+pub rows_fit : (ports : List Port) (stream k : ℕ) (steps : List (List Member)) → first_fault (map (asked_step (map input_of ports) Bits stream) (enumerate_from k steps)) ≡ None → AllByRecursion (λ row. length row ≡ length (flat_map (λ p. p.bits) ports)) (map (row_of (map input_of ports)) steps)
+rows_fit ports stream k [] h = tt
+rows_fit ports stream k (s ∷ ss) h =
+    let own = asked_step (map input_of ports) Bits stream (k, s) in
+    let parts = none_parts (own ∷ []) (map (asked_step (map input_of ports) Bits stream) (enumerate_from (k + 1) ss)) h in
+    (row_long ports s (from_not (has_bits (map input_of ports) s) (not_alone own parts.0)), rows_fit ports stream (k + 1) ss parts.1)
 
 module _ (net : PlainNet) (first : ℕ) where
   abbrev asked : StimulusCause → ℕ → List StreamText → List Asked
@@ -66,7 +66,7 @@ module _ (net : PlainNet) (first : ℕ) where
       record {
         initial = length-map text.initial (λ c. c == 49) ∙ as_many regs text.initial right;
         count = length-map text.steps (row_of (inputs_of net)) ∙ eqb-true (length text.steps) first (from_not _ own.1);
-        rows = all_from _ _ (rows_fit net k 0 text.steps bits);
+        rows = all_from _ _ (rows_fit (input_ports net) k 0 text.steps bits);
       }
 
   streams_fit : (k : ℕ) (texts : List StreamText) → first_fault (asked Steps k texts) ≡ None → first_fault (asked Initial k texts) ≡ None → first_fault (asked Bits k texts) ≡ None → AllByRecursion (StreamFits net first) (map (stream_of (inputs_of net)) texts)
@@ -103,3 +103,26 @@ fits_of net limit texts none =
       some_step = some_step (length net.registers) (inputs_of net) texts some steps.0;
       each = all_from _ _ (streams_fit net (first_steps texts) 0 texts steps.0 initial.0 bits.0);
     }
+
+-- a tape in which nothing that is asked holds has a cycle, and each row has as many bits as the ports
+module _ (net : PlainNet) (rows : Option ℕ) (cycles : List (List Member)) (none : first_fault (tape_asked (tape_inputs net) rows cycles) ≡ None) where
+  abbrev of : StimulusCause → List Asked
+  of cause = asked_cycles (tape_inputs net) cycles cause
+
+  some_cycle : 0 < length cycles
+  some_cycle =
+      let count = none_parts (cycles_asked rows cycles ∷ []) (of Inputs ++ of Bits) none in
+      not_zero (length cycles) (either_false (length cycles == 0) (option_map_or (λ n. not (length cycles == n)) rows false) (not_alone (cycles_asked rows cycles) count.0)).0
+
+  pub rows_wide : (table : List (List Bool)) → table ≡ map (row_of (tape_inputs net)) cycles → (k : ℕ) (d : List Bool) → k < length table → length (get_or table k d) ≡ length (flat_map (λ p. p.bits) (tape_ports net))
+  rows_wide table is =
+      let count = none_parts (cycles_asked rows cycles ∷ []) (of Inputs ++ of Bits) none in
+      let inputs = none_parts (of Inputs) (of Bits) count.1 in
+      let wide = λ (table : List (List Bool)). (k : ℕ) (d : List Bool) → k < length table → length (get_or table k d) ≡ length (flat_map (λ p. p.bits) (tape_ports net)) in
+      subst wide (sym is) (all_from (λ row. length row ≡ length (flat_map (λ p. p.bits) (tape_ports net))) (map (row_of (tape_inputs net)) cycles) (rows_fit (tape_ports net) 0 0 cycles inputs.1))
+
+  pub first_wide : (table shown : List (List Bool)) → table ≡ map (row_of (tape_inputs net)) cycles → shown ≡ table → (first : List Bool) → first ≡ get_or shown 0 first → length first ≡ length (flat_map (λ p. p.bits) (tape_ports net))
+  first_wide table shown is same first here =
+      let long : length table ≡ length cycles = ap length is ∙ length-map cycles (row_of (tape_inputs net)) in
+      let some : 0 < length cycles = some_cycle in
+      ap length (here ∙ ap (λ (t : List (List Bool)). get_or t 0 first) same) ∙ rows_wide table is 0 first (omega arith)

@@ -8,19 +8,8 @@ use Rattle.serde_json.specs.Read.{read}
 use Rattle.serde_json.specs.View.{view, members_view, items_of, items_view}
 use Rattle.serde_json.specs.declared.value.Value.{Value}
 use Rattle.serde_json.proofs.Views.{Entry}
-use Rattle.stimulus.specs.Written.{json_of, members_data}
+use Rattle.stimulus.specs.Written.{members_data}
 use Rattle.stimulus.specs.declared.texts.Member.{Member}
-
--- bytes that are JSON, and bytes that are none
-pub json_is : (bytes : List ℕ) (d : Data) → IsUtf8 bytes → read bytes ≡ Some d → json_of bytes ≡ Some d
-json_is bytes d utf8 is = rw (is_utf8-from_IsUtf8 bytes utf8) is
-
-none_either : (b : Bool) (o : Option Data) → (b ≡ true → o ≡ None) → cond b o None ≡ None
-none_either true o h = h refl
-none_either false o h = refl
-
-pub no_json : (bytes : List ℕ) → (IsUtf8 bytes → read bytes ≡ None) → json_of bytes ≡ None
-no_json bytes h = none_either (is_utf8 bytes) (read bytes) (λ holds. h (IsUtf8-from_is_utf8 bytes holds))
 
 -- members of which one is no string are those of no step
 pub no_step : (done : List Entry) (e : Entry) (left : List Entry) → as_str (view e.1) ≡ None → (ms : List Member) → members_view (done ++ e ∷ left) ≢ members_data ms
@@ -28,22 +17,6 @@ no_step [] e left none [] same = absurd (cc)
 no_step [] e left none (m ∷ ms) same = let is : view e.1 ≡ string m.text = cc in let some : Some m.text ≡ None = sym (ap as_str is) ∙ none in absurd (cc)
 no_step (d ∷ done) e left none [] same = absurd (cc)
 no_step (d ∷ done) e left none (m ∷ ms) same = no_step done e left none ms (cc)
-
--- values of which one is not written so are no list that is
-pub no_items : {X : Type 0} (written : X → Data) (vs : List Value) (i : ℕ) (v : Value) → i < length vs → v ≡ get_or vs i v → ((x : X) → view v ≢ written x) → (xs : List X) → items_view vs ≢ items_of (map written xs)
-no_items written [] i v within here none xs same = absurd (omega arith)
-no_items written (w ∷ ws) zero v within here none [] same = absurd (cc)
-no_items written (w ∷ ws) zero v within here none (x ∷ xs) same = none x (ap view here ∙ cc)
-no_items written (w ∷ ws) (suc i) v within here none [] same = absurd (cc)
-no_items written (w ∷ ws) (suc i) v within here none (x ∷ xs) same = no_items written ws i v (omega arith) here none xs (cc)
-
-pub string_is : (d : Data) (t : List ℕ) → as_str d ≡ Some t → d ≡ string t
-string_is null t is = absurd (cc)
-string_is (boolean b) t is = absurd (cc)
-string_is (number n) t is = absurd (cc)
-string_is (string s) t is = ap string (let same : s ≡ t = cc in same)
-string_is (array ds) t is = absurd (cc)
-string_is (object ms) t is = absurd (cc)
 
 -- one more member of a step
 pub one_member_more : (done : List Entry) (e : Entry) (ms : List Member) (m : Member) → members_view done ≡ members_data ms → string_bytes e.0 ≡ m.key → view e.1 ≡ string m.text → members_view (done ++ e ∷ []) ≡ members_data (ms ++ m ∷ [])

@@ -1,5 +1,5 @@
 -- The names of inputs differ, and their table has them.
-use Rattle.std.proofs.Common.{◌≡◌, ◌≢◌, ℕ, zero, suc, ◌+◌, ◌<◌, ◌++◌, Bool, true, false, not, cond, IsTrue, Option, Some, None, List, [], ◌∷◌, length, get_or, take, drop, map, filter, sym, ap, subst, ◌∙◌, arith}
+use Rattle.std.proofs.Common.{◌≡◌, ◌≢◌, ℕ, zero, suc, ◌+◌, ◌<◌, ◌++◌, Bool, true, false, not, cond, IsTrue, Option, Some, None, List, [], ◌∷◌, length, get_or, take, drop, map, filter, refl, sym, ap, subst, ◌∙◌, arith}
 use Rattle.std.specs.Prelude.{slice_get}
 use Rattle.std.specs.List.{list_any, AllByRecursion}
 use Rattle.std.specs.Option.{option_map, option_map_or}
@@ -43,13 +43,13 @@ apart_from (p ∷ ps) differ = (
   apart_from ps (λ v w lt le same. differ (suc v) (suc w) (omega arith) (omega arith) same),
 )
 
-filtered : (P : Port → Type 0) (ps : List Port) → AllByRecursion P ps → AllByRecursion P (filter is_input ps)
-filtered P [] h = tt
-filtered P (p ∷ ps) h = elim (is_input p) as (λ b. AllByRecursion P (cond b (p ∷ filter is_input ps) (filter is_input ps))) [ true ↦ (h.0, filtered P ps h.1) | false ↦ filtered P ps h.1 ]
+filtered : (test : Port → Bool) (P : Port → Type 0) (ps : List Port) → AllByRecursion P ps → AllByRecursion P (filter test ps)
+filtered test P [] h = tt
+filtered test P (p ∷ ps) h = elim (test p) as (λ b. AllByRecursion P (cond b (p ∷ filter test ps) (filter test ps))) [ true ↦ (h.0, filtered test P ps h.1) | false ↦ filtered test P ps h.1 ]
 
-apart_filtered : (ps : List Port) → Apart ps → Apart (filter is_input ps)
-apart_filtered [] h = tt
-apart_filtered (p ∷ ps) h = elim (is_input p) as (λ b. Apart (cond b (p ∷ filter is_input ps) (filter is_input ps))) [ true ↦ (filtered (λ q. p.name ≢ q.name) ps h.0, apart_filtered ps h.1) | false ↦ apart_filtered ps h.1 ]
+apart_filtered : (test : Port → Bool) (ps : List Port) → Apart ps → Apart (filter test ps)
+apart_filtered test [] h = tt
+apart_filtered test (p ∷ ps) h = elim (test p) as (λ b. Apart (cond b (p ∷ filter test ps) (filter test ps))) [ true ↦ (filtered test (λ q. p.name ≢ q.name) ps h.0, apart_filtered test ps h.1) | false ↦ apart_filtered test ps h.1 ]
 
 without : (P : Port → Type 0) (c : ℕ) (ps : List Port) → AllByRecursion P ps → AllByRecursion P (take c ps ++ drop (suc c) ps)
 without P zero [] h = tt
@@ -81,7 +81,16 @@ differ_from (p ∷ ps) h (suc v) (suc w) lt le same = differ_from ps h.1 v w (om
 
 -- names of ports differ, so those of inputs do
 pub inputs_differ : (ports : List Port) (clock : Option ℕ) → Differ (map (λ p. p.name) ports) → Differ (names_of (map input_of (filter is_input (ports_but clock ports))))
-inputs_differ ports clock differ = differ_from _ (apart_filtered _ (apart_but clock ports (apart_from ports differ)))
+inputs_differ ports clock differ = differ_from _ (apart_filtered is_input _ (apart_but clock ports (apart_from ports differ)))
+
+-- and those of some of them
+pub some_differ : (test : Port → Bool) (ports : List Port) (clock : Option ℕ) → Differ (map (λ p. p.name) ports) → Differ (names_of (map input_of (filter test (filter is_input (ports_but clock ports)))))
+some_differ test ports clock differ = differ_from _ (apart_filtered test _ (apart_filtered is_input _ (apart_but clock ports (apart_from ports differ))))
+
+-- a test of inputs is one of ports
+pub kept_inputs : (test : Input → Bool) (ports : List Port) → filter test (map input_of ports) ≡ map input_of (filter (λ p. test (input_of p)) ports)
+kept_inputs test [] = refl
+kept_inputs test (p ∷ ps) = elim (test (input_of p)) as (λ b. cond b (input_of p ∷ filter test (map input_of ps)) (filter test (map input_of ps)) ≡ map input_of (cond b (p ∷ filter (λ q. test (input_of q)) ps) (filter (λ q. test (input_of q)) ps))) [ true ↦ ap (λ (is : List Input). input_of p ∷ is) (kept_inputs test ps) | false ↦ kept_inputs test ps ]
 
 pub clock_within : (ports : List Port) (c : ℕ) → IsTrue (option_map_or is_clock_port (slice_get ports c) false) → c < length ports
 clock_within [] c h = absurd (let no : false ≡ true = h in cc)

@@ -2,7 +2,7 @@
 use Rattle.std.proofs.Common.{◌≡◌, ℕ, List, [], ◌∷◌, map, refl, ap₂}
 use Rattle.serde_json.specs.Data.{Data}
 use Rattle.serde_json.specs.View.{items_of}
-use Rattle.stimulus.specs.Written.{members_data, step_data, stream_data, stimulus_data}
+use Rattle.stimulus.specs.Written.{members_data, step_data, stream_data, stimulus_data, tape_data}
 use Rattle.stimulus.specs.declared.texts.Member.{Member}
 use Rattle.stimulus.specs.declared.texts.StreamText.{StreamText}
 
@@ -43,3 +43,6 @@ same_stream a b same =
 
 pub same_texts : (a b : List StreamText) → stimulus_data a ≡ stimulus_data b → a ≡ b
 same_texts a b same = same_items stream_data same_stream a b (cc)
+
+pub same_cycles : (a b : List (List Member)) → tape_data a ≡ tape_data b → a ≡ b
+same_cycles a b same = same_items step_data same_step a b (cc)

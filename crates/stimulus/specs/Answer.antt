@@ -2,9 +2,10 @@
 use Rattle.std.specs.Prelude.{◌≡◌, ◌≢◌, ◌==◌, ◌⊎◌, ℕ, Bool, List, length, map, Option, Some, None, Result, Ok, Err}
 use Rattle.std.specs.List.{flat_map}
 use Rattle.serde_json.specs.Data.{Data}
+use Rattle.agm_bits.specs.declared.tape.Tape.{Tape}
 use Rattle.agm_net.specs.Plain.{PlainNet}
-use Rattle.stimulus.specs.Asked.{inputs_of, text_at, all_asked, first_fault, Asked}
-use Rattle.stimulus.specs.Written.{stimulus_data}
+use Rattle.stimulus.specs.Asked.{inputs_of, tape_inputs, tape_ports, text_at, all_asked, tape_asked, first_fault, Asked}
+use Rattle.stimulus.specs.Written.{stimulus_data, tape_data}
 use Rattle.stimulus.specs.declared.fault.StimulusCause.TheVariants.{Json, Shape}
 use Rattle.stimulus.specs.declared.fault.StimulusFault.{StimulusFault}
 use Rattle.stimulus.specs.declared.fault.StimulusFault.TheVariants.{Bad, Memory}
@@ -30,11 +31,6 @@ abbrev pub Passes : {X : Type 0} → List Asked → (X → Type 0) → Result X 
 Passes asked right (Ok x) = (first_fault asked ≡ None) × right x
 Passes asked right (Err f) = (f ≡ Memory) ⊎ (first_fault asked ≡ Some f)
 
--- d is written so, or nothing is
-abbrev pub Finds : {D X : Type 0} → (X → D) → D → Option X → Type 0
-Finds {D} {X} written d None = (x : X) → d ≢ written x
-Finds written d (Some x) = d ≡ written x
-
 -- The answer for a JSON value, of bytes that may have none, over a net with so many streams at the most.
 abbrev pub Answers : PlainNet → Option ℕ → Option Data → Result Stimulus StimulusFault → Type 0
 Answers net limit None result = (result ≡ Err Memory) ⊎ (result ≡ Err (Bad Json 0 0))
@@ -42,3 +38,15 @@ Answers net limit (Some d) result =
     ((result ≡ Err Memory) ⊎ ((result ≡ Err (Bad Shape 0 0)) × ((texts : List StreamText) → d ≢ stimulus_data texts)))
     ⊎ ((texts : List StreamText) × (d ≡ stimulus_data texts)
     × Passes (all_asked (length net.registers) (inputs_of net) limit texts) (λ stimulus. stimulus.streams ≡ map (stream_of (inputs_of net)) texts) result)
+
+-- the rows of cycles, over the input bits without the clock's and those of `agm_r`
+pub record IsTapeOf (net : PlainNet) (cycles : List (List Member)) (tape : Tape) : Type 0 where
+  pub width : tape.width ≡ length (flat_map (λ p. p.bits) (tape_ports net))
+  pub rows : tape.rows ≡ map (row_of (tape_inputs net)) cycles
+
+-- The answer for a JSON value that is to be a tape, of so many rows where a number is given.
+abbrev pub TapeAnswers : PlainNet → Option ℕ → Option Data → Result Tape StimulusFault → Type 0
+TapeAnswers net rows None result = (result ≡ Err Memory) ⊎ (result ≡ Err (Bad Json 0 0))
+TapeAnswers net rows (Some d) result =
+    ((result ≡ Err Memory) ⊎ ((result ≡ Err (Bad Shape 0 0)) × ((cycles : List (List Member)) → d ≢ tape_data cycles)))
+    ⊎ ((cycles : List (List Member)) × (d ≡ tape_data cycles) × Passes (tape_asked (tape_inputs net) rows cycles) (IsTapeOf net cycles) result)

@@ -1,12 +1,12 @@
--- What is asked of a stimulus, in order.
-use Rattle.std.specs.Prelude.{◌==◌, ◌&&◌, ◌||◌, ◌∷◌, ℕ, Bool, false, not, nat_lt, List, [], length, map, filter, Option, Some, None, is_some, if◌then◌else◌, unwrap_or}
+-- What is asked of a stimulus and of a tape, in order.
+use Rattle.std.specs.Prelude.{◌==◌, ◌&&◌, ◌||◌, ◌∷◌, ◌++◌, ℕ, Bool, false, not, nat_lt, List, [], length, map, filter, Option, Some, None, is_some, if◌then◌else◌, unwrap_or, codes}
 use Rattle.std.specs.List.{list_all, list_any, flat_map, enumerate_from}
 use Rattle.std.specs.Option.{option_map_or}
 use Rattle.std.specs.Str.{bytes_eq}
 use Rattle.agm_net.specs.Plain.{PlainNet, is_input, data_ports}
 use Rattle.agm_net.specs.declared.port.Port.{Port}
 use Rattle.stimulus.specs.declared.fault.StimulusCause.{StimulusCause}
-use Rattle.stimulus.specs.declared.fault.StimulusCause.TheVariants.{Streams, Steps, Initial, Inputs, Bits}
+use Rattle.stimulus.specs.declared.fault.StimulusCause.TheVariants.{Streams, Steps, Initial, Inputs, Bits, Cycles}
 use Rattle.stimulus.specs.declared.fault.StimulusFault.{StimulusFault}
 use Rattle.stimulus.specs.declared.fault.StimulusFault.TheVariants.{Bad}
 use Rattle.stimulus.specs.declared.inputs.Input.{Input}
@@ -22,6 +22,13 @@ input_of p = record { name = p.name; width = length p.bits }
 
 abbrev pub inputs_of : PlainNet → List Input
 inputs_of net = map input_of (input_ports net)
+
+-- the input ports of a masked net whose bits a tape has: all but the clock's and `agm_r`
+abbrev pub tape_ports : PlainNet → List Port
+tape_ports net = filter (λ p. not (bytes_eq p.name (codes "agm_r"))) (input_ports net)
+
+abbrev pub tape_inputs : PlainNet → List Input
+tape_inputs net = map input_of (tape_ports net)
 
 abbrev pub names_of : List Input → List (List ℕ)
 names_of inputs = map (λ i. i.name) inputs
@@ -101,6 +108,18 @@ asked_of registers inputs texts cause = flat_map (asked_in registers inputs (fir
 -- all that is asked, each cause of all streams and steps before the next cause
 abbrev pub all_asked : ℕ → List Input → Option ℕ → List StreamText → List Asked
 all_asked registers inputs limit texts = streams_asked limit texts ∷ flat_map (asked_of registers inputs texts) (Steps ∷ Initial ∷ Inputs ∷ Bits ∷ [])
+
+-- no cycle, or another number of them than is wanted
+abbrev pub cycles_asked : Option ℕ → List (List Member) → Asked
+cycles_asked rows cycles = record { cause = Cycles; stream = 0; step = 0; holds = (length cycles == 0) || option_map_or (λ n. not (length cycles == n)) rows false }
+
+-- a cause in all cycles
+abbrev pub asked_cycles : List Input → List (List Member) → StimulusCause → List Asked
+asked_cycles inputs cycles cause = map (asked_step inputs cause 0) (enumerate_from 0 cycles)
+
+-- all that is asked of a tape, each cause of all cycles before the next
+abbrev pub tape_asked : List Input → Option ℕ → List (List Member) → List Asked
+tape_asked inputs rows cycles = cycles_asked rows cycles ∷ (asked_cycles inputs cycles Inputs ++ asked_cycles inputs cycles Bits)
 
 -- the first that holds
 abbrev pub first_fault : List Asked → Option StimulusFault

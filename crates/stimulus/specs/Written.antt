@@ -1,15 +1,9 @@
--- A stimulus as JSON (RFC 8259), its texts as they stand.
-use Rattle.std.specs.Prelude.{ℕ, List, [], ◌∷◌, map, codes, Option, None, if◌then◌else◌}
-use Rattle.std.specs.Str.{is_utf8}
+-- A stimulus and a tape as JSON (RFC 8259), their texts as they stand.
+use Rattle.std.specs.Prelude.{List, [], ◌∷◌, map, codes}
 use Rattle.serde_json.specs.Data.{Data, object, array, string, Members, member, no_members}
-use Rattle.serde_json.specs.Read.{read}
 use Rattle.serde_json.specs.View.{items_of}
 use Rattle.stimulus.specs.declared.texts.Member.{Member}
 use Rattle.stimulus.specs.declared.texts.StreamText.{StreamText}
-
--- the value of bytes, where they are JSON in UTF-8
-abbrev pub json_of : List ℕ → Option Data
-json_of bytes = if is_utf8 bytes then read bytes else None
 
 abbrev pub members_data : List Member → Members
 members_data [] = no_members
@@ -30,3 +24,7 @@ stream_data s = object (member (codes "initial") (stream_parts s).0 (member (cod
 -- a stimulus: an object of this key alone
 abbrev pub stimulus_data : List StreamText → Data
 stimulus_data texts = object (member (codes "streams") (array (items_of (map stream_data texts))) no_members)
+
+-- a tape: an object of this key alone
+abbrev pub tape_data : List (List Member) → Data
+tape_data cycles = object (member (codes "cycles") (array (items_of (map step_data cycles))) no_members)

@@ -12,8 +12,8 @@ use crate::{StimulusCause, StimulusFault};
 use agm_bits::List;
 use std::alloc::Global;
 
-// A cause in the steps of a stream.
-fn check_steps(
+/// A cause in the steps of a stream.
+pub(crate) fn check_steps(
     alloc: Global,
     wanted: &Wanted,
     cause: StimulusCause,

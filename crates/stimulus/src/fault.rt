@@ -1,6 +1,7 @@
 use agm_bits::Memory;
 
-/// Why a text is no stimulus of a net. Each cause is looked for in all streams and steps before the next one.
+/// Why a text is no stimulus or no tape of a net. Each cause is looked for in all streams and steps before the next one; those of a tape
+/// are `Json`, `Shape`, `Cycles`, `Inputs` and `Bits`, and the stream is 0.
 #[derive(Clone, Copy, Debug, PartialEq, Eq)]
 pub enum StimulusCause {
     /// The bytes are no JSON value in UTF-8.
@@ -17,12 +18,15 @@ pub enum StimulusCause {
     Inputs,
     /// The text of some port has not one `0` or `1` for each of its bits.
     Bits,
+    /// A tape has no cycle, or another number of them than is wanted.
+    Cycles,
 }
 
-/// Why no stimulus was read.
+/// Why no stimulus or tape was read.
 #[derive(Clone, Copy, Debug, PartialEq, Eq)]
 pub enum StimulusFault {
-    /// The first cause that holds. `stream` is 0 for `Json`, `Shape` and `Streams`, and `step` for all but `Inputs` and `Bits`.
+    /// The first cause that holds. `stream` is 0 for `Json`, `Shape` and `Streams`, and `step`, which counts cycles in a tape, for all but
+    /// `Inputs` and `Bits`.
     Bad {
         cause: StimulusCause,
         stream: usize,

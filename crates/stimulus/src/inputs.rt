@@ -1,6 +1,7 @@
 //! The input ports of a net.
 
-ghost use Rattle.std.specs.Prelude.{◌≡◌, ◌++◌, ◌<◌, ◌∷◌, [], ℕ, Some, IfOk, OnOk, length, map, filter};
+ghost use Rattle.std.specs.Prelude.{◌≡◌, ◌++◌, ◌<◌, ◌∷◌, [], ℕ, Some, IfOk, OnOk, length, map, filter, not, codes};
+ghost use Rattle.std.specs.Str.{bytes_eq};
 ghost use Rattle.agm_net.specs.Plain.{is_input, ports_but};
 ghost use Rattle.agm_net.specs.View.{plain_of};
 ghost use Rattle.agm_net.specs.WellFormed.{Differ};
@@ -79,6 +80,33 @@ pub(crate) fn wanted_of(alloc: Global, net: &Net, clock: Option<usize>) -> Resul
     ensures inputs { IfOk result (λ wanted. wanted.inputs ≡ spec.inputs_of (plain_of net.now)) }
 {
     let inputs = inputs_of(alloc, net.ports.as_slice(), clock)?;
+    let names = names_of(alloc, inputs.as_slice())?;
+    Ok(Wanted {
+        registers: net.registers.len(),
+        inputs,
+        names,
+    })
+}
+
+// The inputs but `agm_r`.
+fn but_random(alloc: Global, inputs: List<Input>) -> Result<List<Input>, Memory>
+    ensures { IfOk result (λ kept. kept ≡ filter (λ i. not (bytes_eq i.name (codes "agm_r"))) inputs) }
+{
+    let mut kept = List::new(alloc);
+    for input in inputs.into_vec() {
+        if input.name.as_slice() != b"agm_r".as_slice() {
+            kept.push(input)?;
+        }
+    }
+    Ok(kept)
+}
+
+/// What a tape of a masked net is held against: all input ports but the clock's and `agm_r`.
+pub(crate) fn tape_wanted(alloc: Global, net: &Net) -> Result<Wanted, Memory>
+    ensures { IfOk result (λ wanted. wanted.inputs ≡ spec.tape_inputs (plain_of net.now)) }
+{
+    let inputs = inputs_of(alloc, net.ports.as_slice(), net.clock)?;
+    let inputs = but_random(alloc, inputs)?;
     let names = names_of(alloc, inputs.as_slice())?;
     Ok(Wanted {
         registers: net.registers.len(),

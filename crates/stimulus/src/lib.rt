@@ -1,4 +1,4 @@
-//! Stimuli: what a simulated net is driven with, read from JSON.
+//! Stimuli and tapes: what a net is driven with, read from JSON.
 #![tactic(auto)]
 
 mod checks;
@@ -8,9 +8,11 @@ mod laws;
 mod reading;
 mod steps;
 mod stimuli;
+mod tapes;
 mod texts;
 
 pub use fault::{StimulusCause, StimulusFault};
-pub use laws::texts_are_one;
+pub use laws::{cycles_are_one, texts_are_one};
 pub use reading::read_stimulus;
 pub use stimuli::{Stimulus, Stream};
+pub use tapes::read_tape;

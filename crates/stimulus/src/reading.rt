@@ -2,11 +2,10 @@ ghost use Rattle.std.specs.Prelude.{◌≡◌, ◌⊎◌, IfOk, IfErr, length, m
 ghost use Rattle.agm_net.specs.View.{plain_of};
 ghost use Rattle.stimulus.specs.Answer.{Answers, Passes, stream_of};
 ghost use Rattle.stimulus.specs.Asked.{all_asked, inputs_of};
-ghost use Rattle.stimulus.specs.declared.fault.StimulusCause.TheVariants.{Json as NoJson};
 ghost use Rattle.stimulus.specs.declared.fault.StimulusFault.TheVariants as fault;
 ghost use Rattle.serde_json.specs.View.{view};
 ghost use Rattle.stimulus.specs.Fits.{Fits};
-ghost use Rattle.stimulus.specs.Written.{json_of};
+ghost use Rattle.json_values.specs.Json.{json_of};
 
 use crate::checks::check_texts;
 use crate::inputs::wanted_of;
@@ -14,34 +13,18 @@ use crate::stimuli::streams_of;
 use crate::texts::{StreamText, read_texts};
 use crate::{Stimulus, StimulusCause, StimulusFault};
 use agm_net::Net;
-use serde_json::{Error, Value};
+use json_values::{JsonFault, json_value};
+use serde_json::Value;
 use std::alloc::Global;
 
-// The fault of a cause in no stream.
-fn bad(cause: StimulusCause) -> StimulusFault
+/// The fault of a cause in no stream.
+pub(crate) fn bad(cause: StimulusCause) -> StimulusFault
     ensures { result ≡ fault.Bad cause 0 0 }
 {
     StimulusFault::Bad {
         cause,
         stream: 0,
         step: 0,
-    }
-}
-
-// The JSON value of bytes.
-fn value_of(alloc: Global, bytes: &[u8]) -> Result<Value, StimulusFault>
-    ensures ok { IfOk result (λ v. json_of bytes.now ≡ Some (view v)) }
-    ensures err { IfErr result (λ f. (f ≡ fault.Memory) ⊎ ((json_of bytes.now ≡ None) × (f ≡ fault.Bad NoJson 0 0))) }
-{
-    match Value::from_slice(alloc, bytes) {
-        Ok(value) => Ok(value),
-        Err(error) => {
-            if error.is_memory() {
-                Err(StimulusFault::Memory)
-            } else {
-                Err(bad(StimulusCause::Json))
-            }
-        }
     }
 }
 
@@ -62,6 +45,25 @@ fn stimulus_of(
     Ok(Stimulus {
         streams: streams_of(alloc, &wanted, texts)?,
     })
+}
+
+// The stimulus of a JSON value.
+fn stimulus_in(
+    alloc: Global,
+    net: &Net,
+    clock: Option<usize>,
+    streams: Option<usize>,
+    value: &Value,
+) -> Result<Stimulus, StimulusFault>
+    requires { clock ≡ net.now.clock }
+    ensures answers { Answers (plain_of net.now) streams (Some (view value.now)) result }
+    ensures fits { IfOk result (λ stimulus. Fits (plain_of net.now) streams stimulus.streams) }
+{
+    let read = read_texts(alloc, value)?;
+    match read {
+        Some(texts) => stimulus_of(alloc, net, clock, streams, texts.as_slice()),
+        None => Err(bad(StimulusCause::Shape)),
+    }
 }
 
 /// Reads a stimulus of a net: `{"streams":[{"initial":"01","steps":[{"x":"1","y":"0"}]}]}`. Character k of `initial` is that
@@ -86,10 +88,9 @@ pub fn read_stimulus(
     ensures answers { Answers (plain_of net.now) streams (json_of bytes.now) result }
     ensures fits { IfOk result (λ stimulus. Fits (plain_of net.now) streams stimulus.streams) }
 {
-    let value = value_of(alloc, bytes)?;
-    let read = read_texts(alloc, &value)?;
-    match read {
-        Some(texts) => stimulus_of(alloc, net, clock, streams, texts.as_slice()),
-        None => Err(bad(StimulusCause::Shape)),
+    match json_value(alloc, bytes) {
+        Ok(value) => stimulus_in(alloc, net, clock, streams, &value),
+        Err(JsonFault::NoJson) => Err(bad(StimulusCause::Json)),
+        Err(JsonFault::Memory) => Err(StimulusFault::Memory),
     }
 }

@@ -23,8 +23,12 @@ pub struct Stimulus {
     pub streams: List<Stream>,
 }
 
-// The rows of steps.
-fn rows_of(alloc: Global, wanted: &Wanted, steps: &[List<Member>]) -> Result<List<BitRow>, Memory>
+/// The rows of steps.
+pub(crate) fn rows_of(
+    alloc: Global,
+    wanted: &Wanted,
+    steps: &[List<Member>],
+) -> Result<List<BitRow>, Memory>
     ensures { IfOk result (λ rows. rows ≡ map (spec.row_of wanted.now.inputs) steps.now) }
 {
     let mut rows = List::new(alloc);

@@ -1,12 +1,12 @@
-//! The texts of a stimulus, taken out of a JSON value.
+//! The texts of a stimulus and of a tape, taken out of a JSON value.
 
-ghost use Rattle.std.specs.Prelude.{◌≡◌, IfOk, map, option_map, string_bytes};
-ghost use Rattle.serde_json.specs.Data.{Data, object, member, no_members};
+ghost use Rattle.std.specs.Prelude.{◌≡◌, IfOk, map, string_bytes};
 ghost use Rattle.serde_json.specs.View.{view, members_view, items_of, items_view};
-ghost use Rattle.stimulus.specs.Answer.{Finds};
+ghost use Rattle.json_values.specs.Finds.{Finds};
 ghost use Rattle.stimulus.specs.Written as spec;
 
 use agm_bits::{List, Memory, Name};
+use json_values::{only_member, two_members};
 use serde_json::{Map, Value};
 use std::alloc::Global;
 
@@ -22,50 +22,6 @@ pub struct Member {
 pub struct StreamText {
     pub initial: Name,
     pub steps: List<List<Member>>,
-}
-
-// The only member of an object, where it has this key.
-fn only_member<'v>(value: &'v Value, key: &str) -> Option<&'v Value>
-    ensures { Finds (λ d. object (member key.now d no_members)) (view value.now) (option_map (λ v. view v.now) result) }
-{
-    let Some(map) = value.as_object() else {
-        return None;
-    };
-    let mut members = map.iter();
-    let Some((name, item)) = members.next() else {
-        return None;
-    };
-    if members.next().is_some() || name.as_str() != key {
-        return None;
-    }
-    Some(item)
-}
-
-// The two members of an object, where they have these keys.
-fn two_members<'v>(
-    value: &'v Value,
-    first_key: &str,
-    second_key: &str,
-) -> Option<(&'v Value, &'v Value)>
-    ensures { Finds (λ (p : Data × Data). object (member first_key.now p.0 (member second_key.now p.1 no_members))) (view value.now) (option_map (λ r. (view r.0.now, view r.1.now)) result) }
-{
-    let Some(map) = value.as_object() else {
-        return None;
-    };
-    let mut members = map.iter();
-    let Some((first_name, first)) = members.next() else {
-        return None;
-    };
-    let Some((second_name, second)) = members.next() else {
-        return None;
-    };
-    if members.next().is_some()
-        || first_name.as_str() != first_key
-        || second_name.as_str() != second_key
-    {
-        return None;
-    }
-    Some((first, second))
 }
 
 // A member of a step.
@@ -172,4 +128,20 @@ pub(crate) fn read_texts(alloc: Global, value: &Value) -> Result<Option<List<Str
         return Ok(None);
     };
     read_streams(alloc, streams.as_slice())
+}
+
+/// The texts of a tape, where the value has its shape.
+pub(crate) fn read_cycles(
+    alloc: Global,
+    value: &Value,
+) -> Result<Option<List<List<Member>>>, Memory>
+    ensures { IfOk result (Finds spec.tape_data (view value.now)) }
+{
+    let Some(cycles) = only_member(value, "cycles") else {
+        return Ok(None);
+    };
+    let Some(cycles) = cycles.as_array() else {
+        return Ok(None);
+    };
+    read_steps(alloc, cycles.as_slice())
 }

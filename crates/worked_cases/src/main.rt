@@ -14,7 +14,9 @@ mod shown_function;
 mod shown_library;
 mod shown_net;
 mod shown_ports;
+mod shown_probes;
 mod shown_stimulus;
+mod shown_tape;
 mod shown_tokens;
 mod stage;
 
@@ -23,7 +25,7 @@ use crate::shown_design::design_text;
 use crate::shown_draws::{drawn_text, random_text};
 use crate::shown_function::function_text;
 use crate::shown_library::library_text;
-use crate::shown_net::{agreement_over, net_or_fault, stimulus_over};
+use crate::shown_net::{agreement_over, net_or_fault, probes_over, stimulus_over, tape_over};
 use crate::shown_ports::{clock_text, ports_text, top_text};
 use crate::shown_tokens::tokens_text;
 use crate::stage::Stage;
@@ -65,6 +67,8 @@ fn of_files(alloc: Global, stage: &mut Stage, word: &str, text: &str) -> Result<
         "bind" => net_or_fault(alloc, library, text),
         "agree" => agreement_over(alloc, library, stage.held(alloc, text)?.as_str()),
         "stimulus" => stimulus_over(alloc, library, stage.held(alloc, "n.v")?.as_str(), text),
+        "tape" => tape_over(alloc, library, stage.held(alloc, "n.v")?.as_str(), text),
+        "probes" => probes_over(alloc, library, stage.held(alloc, "n.v")?.as_str(), text),
         name => {
             stage.hold(name, text)?;
             Ok(String::new(alloc))

@@ -1,7 +1,9 @@
 //! Bound designs as texts.
 
 use crate::agreement::agreement;
+use crate::shown_probes::probes_text;
 use crate::shown_stimulus::stimulus_text;
+use crate::shown_tape::tape_text;
 use agm_bits::{List, Name};
 use agm_net::{Expr, Net, Port, Way};
 use bound_items::BindFault;
@@ -183,6 +185,32 @@ pub(crate) fn stimulus_over(
 ) -> Result<String, Fail> {
     match bound(alloc, library, netlist)? {
         Ok(net) => Ok(stimulus_text(alloc, &net, line)?),
+        Err(fault) => Ok(fault_text(alloc, &fault)?),
+    }
+}
+
+/// What is read of a tape of that net.
+pub(crate) fn tape_over(
+    alloc: Global,
+    library: &str,
+    netlist: &str,
+    line: &str,
+) -> Result<String, Fail> {
+    match bound(alloc, library, netlist)? {
+        Ok(net) => Ok(tape_text(alloc, &net, line)?),
+        Err(fault) => Ok(fault_text(alloc, &fault)?),
+    }
+}
+
+/// What is read of a list of probes of that net.
+pub(crate) fn probes_over(
+    alloc: Global,
+    library: &str,
+    netlist: &str,
+    line: &str,
+) -> Result<String, Fail> {
+    match bound(alloc, library, netlist)? {
+        Ok(net) => Ok(probes_text(alloc, &net, line)?),
         Err(fault) => Ok(fault_text(alloc, &fault)?),
     }
 }

@@ -5,7 +5,8 @@ use agm_net::Net;
 use std::alloc::{AllocError, Global};
 use stimulus::{Stimulus, StimulusCause, StimulusFault, Stream, read_stimulus};
 
-fn add_row(shown: &mut String, row: &BitRow) -> Result<(), AllocError> {
+/// Adds the bits of a row to a text.
+pub(crate) fn add_row(shown: &mut String, row: &BitRow) -> Result<(), AllocError> {
     for k in 0..row.len() {
         shown.push(if row.get(k) { '1' } else { '0' })?;
     }
@@ -38,10 +39,12 @@ fn cause_text(cause: StimulusCause) -> &'static str {
         StimulusCause::Initial => "Initial",
         StimulusCause::Inputs => "Inputs",
         StimulusCause::Bits => "Bits",
+        StimulusCause::Cycles => "Cycles",
     }
 }
 
-fn show_fault(alloc: Global, fault: StimulusFault) -> Result<String, AllocError> {
+/// The cause of a fault with its stream and step.
+pub(crate) fn fault_text(alloc: Global, fault: StimulusFault) -> Result<String, AllocError> {
     match fault {
         StimulusFault::Memory => String::from_str(alloc, "Memory"),
         StimulusFault::Bad {
@@ -61,7 +64,7 @@ fn show_answer(
 ) -> Result<String, AllocError> {
     match answer {
         Ok(stimulus) => show(alloc, &stimulus),
-        Err(fault) => show_fault(alloc, fault),
+        Err(fault) => fault_text(alloc, fault),
     }
 }
 

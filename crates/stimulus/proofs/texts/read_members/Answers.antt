@@ -3,7 +3,8 @@ use Rattle.std.specs.Option.{option_map}
 use Rattle.serde_json.specs.Find.{as_str}
 use Rattle.serde_json.specs.View.{view, members_view}
 use Rattle.serde_json.proofs.Views.{Entry}
-use Rattle.stimulus.proofs.Json.{no_step, one_member_more, string_is}
+use Rattle.json_values.proofs.Values.{string_is}
+use Rattle.stimulus.proofs.Json.{no_step, one_member_more}
 use Rattle.stimulus.specs.Written.{members_data}
 use Rattle.stimulus.proofs.texts.read_members.Goals as goal
 

@@ -1,7 +1,7 @@
 use Rattle.std.proofs.Common.{subst}
 use Rattle.serde_json.specs.View.{view}
-use Rattle.stimulus.proofs.Json.{no_items}
-use Rattle.stimulus.specs.Answer.{Finds}
+use Rattle.json_values.proofs.Values.{no_items}
+use Rattle.json_values.specs.Finds.{Finds}
 use Rattle.stimulus.specs.Written.{stream_data}
 use Rattle.stimulus.proofs.texts.read_streams.Goals as goal
 

@@ -4,19 +4,20 @@ use Rattle.agm_net.specs.Plain.{stored_of}
 use Rattle.agm_net.specs.View.{plain_of}
 use Rattle.serde_json.specs.Data.{Data}
 use Rattle.serde_json.specs.View.{view}
-use Rattle.stimulus.specs.Answer.{Answers, Finds, Passes, stream_of}
+use Rattle.json_values.specs.Finds.{Finds}
+use Rattle.stimulus.specs.Answer.{Passes, stream_of}
 use Rattle.stimulus.specs.Asked.{all_asked, inputs_of}
 use Rattle.stimulus.specs.Written.{stimulus_data}
 use Rattle.stimulus.specs.declared.stimuli.Stimulus.{Stimulus}
 use Rattle.stimulus.specs.declared.texts.StreamText.{StreamText}
-use Rattle.stimulus.proofs.reading.read_stimulus.Goals as goal
+use Rattle.stimulus.proofs.reading.stimulus_in.Goals as goal
 
 pub returns-in-Some-clause-answers : goal.returns-in-Some-clause-answers
 returns-in-Some-clause-answers c =
     let net = c.args.net.now in let inputs = inputs_of (plain_of net) in
-    let texts = c.in-Some.texts in let v = c.in_ok-value.value in
+    let texts = c.in-Some.texts in let v = c.args.value.now in
     let right = λ (ts : List StreamText) (s : Stimulus). s.streams ≡ map (stream_of inputs) ts in
     let written : view v ≡ stimulus_data texts = subst (Finds stimulus_data (view v)) c.in-Some.is c.in_ok-read.ensures in
     let passes = subst (λ (n : ℕ). Passes (all_asked n inputs c.args.streams texts) (right texts) c.stimulus_of.result) (sym (length-map net.registers stored_of))
     (subst (λ (ts : List StreamText). Passes (all_asked (length net.registers) inputs c.args.streams ts) (right ts) c.stimulus_of.result) c.as_slice.ensures c.stimulus_of.ensures.passes) in
-    subst (λ (o : Option Data). Answers (plain_of net) c.args.streams o c.stimulus_of.result) (sym c.in_ok-value.ensures.ok) (inr (texts, written, passes))
+    inr (texts, written, passes)
