@@ -115,7 +115,8 @@ may_follow_fault (ReadFault file) = true
 may_follow_fault Memory = true
 may_follow_fault _ = false
 
--- No read has failed, unless the answer tells of one or of want of memory. So nothing is read but what a command reads, and for `-` no file.
+-- The count of failed reads stays as it was, unless the answer tells of one or of want of memory. So no file is read for `-`: a read of one
+-- that isn't held would count.
 abbrev pub NoReadFailed : (before now : ℕ) → Ended → Type 0
 NoReadFailed before now ended = may_follow_fault ended ≡ false → now ≡ before
 
