@@ -10,3 +10,4 @@ pub mod Made
 pub mod Ordered
 pub mod Machines
 pub mod Live
+pub mod Cuts

@@ -9,3 +9,5 @@ pub mod Reach
 pub mod Wires
 pub mod Clock
 pub mod Found
+pub mod Aig
+pub mod Bdd
