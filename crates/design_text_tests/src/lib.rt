@@ -1,0 +1,5 @@
+//! Tests of the text of a design.
+#![tactic(auto)]
+
+#[cfg(test)]
+mod written;

@@ -1,0 +1,5 @@
+//! Tests of the reader of reports.
+#![tactic(auto)]
+
+#[cfg(test)]
+mod causes;
