@@ -16,3 +16,4 @@ pub mod Filling
 pub mod Registering
 pub mod Piping
 pub mod Raising
+pub mod Laying

@@ -2,7 +2,7 @@
 use Rattle.std.specs.Prelude.{◌≡◌, ◌<◌, ◌≤◌, ◌-◌, ℕ, Bool, false, ◌&&◌, cond, List, [], ◌∷◌, max, length, slice_get, slice_index_or, slice_set, Some}
 use Rattle.std.specs.List.{AllByRecursion}
 use Rattle.logic_graph.specs.declared.nodes.XanNode.{XanNode}
-use Rattle.logic_graph.specs.declared.nodes.XanNode.TheVariants.{Xor, And}
+use Rattle.logic_graph.specs.declared.nodes.XanNode.TheVariants.{Input, Q, Not, Xor, And}
 use Rattle.pipeline_balance.specs.Piped.{node_at}
 
 abbrev pub flag_at : List Bool → ℕ → Bool
@@ -40,3 +40,16 @@ pub record AreRaised (nodes : List XanNode) (sinks : List ℕ) (secret : List Bo
       → AllByRecursion (λ r. r.1 ≤ node_at lasts r.0) (reads_of (flag_at secret) (flag_at late_first i) (node_at levels i) n)
   pub ends : (i : ℕ) → i < j → depth ≤ node_at lasts (node_at sinks i)
   pub least : (last : ℕ → ℕ) → AreReached nodes sinks secret levels late_first depth last → (i : ℕ) → node_at lasts i ≤ last i
+
+-- What a plan says of the level of node k: sources stand at level 0, an inversion at its operand's level, and no operand later than it is
+-- read.
+abbrev pub FitsLevels : (secret : ℕ → Bool) → (level : ℕ → ℕ) → (late_first : Bool) → ℕ → XanNode → Type 0
+FitsLevels secret level late_first k (Input i) = level k ≡ 0
+FitsLevels secret level late_first k (Q r) = level k ≡ 0
+FitsLevels secret level late_first k (Not a) = level k ≡ level a
+FitsLevels secret level late_first k (Xor a b) = (level a ≤ level k) × (level b ≤ level k)
+FitsLevels secret level late_first k (And a b) =
+    cond (secret a && secret b)
+    ((2 ≤ level k) × (level (cond late_first a b) ≤ level k - 1) × (level (cond late_first b a) ≤ level k - 2))
+    ((level a ≤ level k) × (level b ≤ level k))
+FitsLevels secret level late_first k _ = Unit {0}

@@ -1,6 +1,6 @@
 //! Laws on pipelines.
 
-ghost use Rattle.std.specs.Prelude.{◌≡◌, ◌<◌, ◌+◌, ◌*◌, ◌&&◌, ◌++◌, ◌∷◌, [], ℕ, suc, Bool, true, false, not, List, length, map, slice_get, Some, IsTrue};
+ghost use Rattle.std.specs.Prelude.{◌≡◌, ◌<◌, ◌≤◌, ◌+◌, ◌*◌, ◌&&◌, ◌++◌, ◌∷◌, [], ℕ, suc, Bool, true, false, not, List, length, map, slice_get, Some, IsTrue};
 ghost use Rattle.agm_net.specs.Formula.{xor};
 ghost use Rattle.agm_net.specs.Loop.{HasNoLoop};
 ghost use Rattle.agm_net.specs.Plain.{PlainNet, is_input, input_bits, data_ports};
@@ -27,6 +27,10 @@ ghost use Rattle.pipeline_balance.specs.Ranks.{secrets_before, publics_before};
 ghost use Rattle.pipeline_balance.specs.Growing.{AreInOrder, AreMade, HasMore};
 ghost use Rattle.share_wiring.specs.Adds.{AddsFact, Xors, Masks, Holds, Copies, Delays};
 ghost use Rattle.hpc2_gadget.specs.Product.{Multiplies};
+ghost use Rattle.pipeline_balance.specs.declared.chains.Layout.{Layout};
+ghost use Rattle.pipeline_balance.specs.Chained.{node_kind, has_source, secret_at, first_at, last_at, late_at, IsLayout};
+ghost use Rattle.pipeline_balance.specs.Piped.{node_at, ReachDepth};
+ghost use Rattle.pipeline_balance.specs.Reaching.{flag_at, FitsLevels, AreReached};
 ghost use Rattle.pipeline_balance.specs.Signals.{Signal, Carries, Joins, Products, selected};
 ghost use Rattle.pipeline_balance.specs.Shared.{shared, Places, Agree, placed};
 ghost use Rattle.pipeline_balance.specs.Machines.{Machine, IsMachine, Solves, IsMachineRun, out_node};
@@ -63,4 +67,15 @@ pub fn toggle_is_driven()
     ensures pipeline { (cycles : ℕ) (x y initial load : Signal) → IsPipeline toggle toggle_level 2 cycles (toggle_signals x y initial load) }
     ensures driven { (initial : ℕ → ℕ → Bool) (inputs : ℕ → ℕ → ℕ → Bool) (steps stream : ℕ) → stream < 3 →
         IsDriven toggle 2 (3 * steps + 3) (driven_toggle initial inputs) stream steps (initial stream) (inputs stream) }
+{}
+
+/// A law: a plan whose nodes are carried as far as they are read is a layout, and its sinks are carried to the depth.
+pub fn plans_are_layouts()
+    ensures layout { (nodes : List XanNode) (sinks : List ℕ) (layout : Layout) (depth : ℕ) → AreReached nodes sinks layout.secret layout.levels layout.late_first depth (last_at layout) →
+        (inputs registers : List Bool) → length layout.secret ≡ length nodes → length layout.levels ≡ length nodes → length layout.lasts ≡ length nodes → length layout.late_first ≡ length nodes →
+        ((k : ℕ) (n : XanNode) → slice_get nodes k ≡ Some n → secret_at layout k ≡ node_kind (flag_at inputs) (flag_at registers) (secret_at layout) n) →
+        ((k : ℕ) (n : XanNode) → slice_get nodes k ≡ Some n → IsTrue (has_source (length inputs) (length registers) n)) →
+        ((k : ℕ) (n : XanNode) → slice_get nodes k ≡ Some n → FitsLevels (secret_at layout) (first_at layout) (late_at layout k) k n) → IsLayout nodes inputs registers layout }
+    ensures depth { (nodes : List XanNode) (sinks : List ℕ) (layout : Layout) (depth : ℕ) → AreReached nodes sinks layout.secret layout.levels layout.late_first depth (last_at layout) →
+        ((j : ℕ) → j < length sinks → (node_at sinks j < length nodes) × (first_at layout (node_at sinks j) ≤ depth)) → ReachDepth nodes layout depth sinks }
 {}

@@ -11,7 +11,9 @@ mod values;
 
 pub use chains::{Chain, Layout};
 pub use lasts::last_levels;
-pub use laws::{pipelined_is_same, pipelines_are_right, toggle_is_driven, traces_are_runs};
+pub use laws::{
+    pipelined_is_same, pipelines_are_right, plans_are_layouts, toggle_is_driven, traces_are_runs,
+};
 pub use nodes::make_nodes;
 pub use pipeline::make_pipeline;
 pub use registers::{close_registers, hold_registers};
