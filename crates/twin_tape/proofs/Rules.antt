@@ -8,7 +8,7 @@ use Rattle.agm_net.specs.Label.{part, part_name, name_of, IsBitOf, IsPart as IsP
 use Rattle.agm_net.specs.Network as network
 use Rattle.agm_net.specs.Network.{Hpc2, Recipe, inverse, product, sum, stored, a_share, IsMade, random_bits_of, partial_sum, term}
 use Rattle.agm_net.specs.Plain.{PlainNet, input_bits, is_input, data_ports}
-use Rattle.agm_net.specs.Run.{Driver, d_input, d_clock, d_equation, d_register, d_nothing, driver, Drives}
+use Rattle.agm_net.specs.Run.{Driver, d_input, d_clock, d_equation, d_register, d_nothing, driver, HasDriver}
 use Rattle.agm_net.specs.Run as run
 use Rattle.agm_net.specs.WellFormed.{WellFormed}
 use Rattle.agm_net.specs.declared.label.Label.{Label}
@@ -203,7 +203,7 @@ module _ (net : PlainNet) (d : ℕ) (well : WellFormed net) (hpc2 : Hpc2 net d) 
   given : (w n : ℕ) → w < length net.wires → source net w ≡ Input n → (m : ℕ) × (slice_get (input_bits net) m ≡ Some w) × (is_random (role m) ≡ false) × (rank_in is_other (bit_roles net) m ≡ n)
   given w n inside is = go (driver net w) (is_driven net well w inside) is
     where
-      go : (D : Driver) → Drives net D w → source_of net D ≡ Input n → (m : ℕ) × (slice_get (input_bits net) m ≡ Some w) × (is_random (role m) ≡ false) × (rank_in is_other (bit_roles net) m ≡ n)
+      go : (D : Driver) → HasDriver net D w → source_of net D ≡ Input n → (m : ℕ) × (slice_get (input_bits net) m ≡ Some w) × (is_random (role m) ≡ false) × (rank_in is_other (bit_roles net) m ≡ n)
       go (d_input m) drives e = go_role (is_random (role m)) refl e
         where
           go_role : (b : Bool) → is_random (role m) ≡ b → cond b (Random (rank_in is_random (bit_roles net) m)) (Input (rank_in is_other (bit_roles net) m)) ≡ Input n
@@ -218,7 +218,7 @@ module _ (net : PlainNet) (d : ℕ) (well : WellFormed net) (hpc2 : Hpc2 net d) 
   drawn : (w n : ℕ) → w < length net.wires → source net w ≡ Random n → (m : ℕ) × (slice_get (input_bits net) m ≡ Some w) × (is_random (role m) ≡ true)
   drawn w n inside is = go (driver net w) (is_driven net well w inside) is
     where
-      go : (D : Driver) → Drives net D w → source_of net D ≡ Random n → (m : ℕ) × (slice_get (input_bits net) m ≡ Some w) × (is_random (role m) ≡ true)
+      go : (D : Driver) → HasDriver net D w → source_of net D ≡ Random n → (m : ℕ) × (slice_get (input_bits net) m ≡ Some w) × (is_random (role m) ≡ true)
       go (d_input m) drives e = go_role (is_random (role m)) refl e
         where
           go_role : (b : Bool) → is_random (role m) ≡ b → cond b (Random (rank_in is_random (bit_roles net) m)) (Input (rank_in is_other (bit_roles net) m)) ≡ Random n

@@ -5,7 +5,7 @@ use Rattle.std.specs.List.{range_with_len}
 use Rattle.agm_net.specs.Formula.{Formula, value, stands}
 use Rattle.agm_net.specs.Plain.{PlainNet, input_bits, is_input, data_ports}
 use Rattle.agm_net.specs.Loop.{HasNoLoop, IsRanked}
-use Rattle.agm_net.specs.Run.{Driver, d_input, d_clock, d_equation, d_register, d_nothing, driver, Drives, bit_in}
+use Rattle.agm_net.specs.Run.{Driver, d_input, d_clock, d_equation, d_register, d_nothing, driver, HasDriver, bit_in}
 use Rattle.agm_net.specs.Run as run
 use Rattle.agm_net.specs.Trace.{Row, row_at, bit_at}
 use Rattle.agm_net.specs.WellFormed.{WellFormed}
@@ -202,7 +202,7 @@ pub has_role : (net : PlainNet) (n w : ℕ) → slice_get (input_bits net) n ≡
 has_role net n w e = let h = found_small (input_bits net) n w e in let long = roles_long (filter is_input (data_ports net)) in omega arith
 
 module _ (net : PlainNet) (ranked : Ranked net) (power : Row) (inputs random : List Row) where
-  by_driver : (d : Driver) (w t : ℕ) (past now : ℕ → Bool) → Drives net d w → run.asked d power (with_random net inputs random) past now t ≡ asked (source_of net d) power inputs random past now t
+  by_driver : (d : Driver) (w t : ℕ) (past now : ℕ → Bool) → HasDriver net d w → run.asked d power (with_random net inputs random) past now t ≡ asked (source_of net d) power inputs random past now t
   unfolding row_bit
   by_driver (d_input n) w t past now drives = input_bit net inputs random t n (has_role net n w drives) ∙ go (is_random (slice_index_or (bit_roles net) n open_bit))
     where
