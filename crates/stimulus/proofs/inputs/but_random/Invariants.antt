@@ -1,4 +1,4 @@
-use Rattle.std.proofs.Common.{◌≡◌, filter, not, take}
+use Rattle.std.proofs.Common.{◌≡◌, filter, not}
 use Rattle.std.specs.Prelude.{codes}
 use Rattle.std.specs.Str.{bytes_eq}
 use Rattle.stimulus.proofs.inputs.but_random.Given as goal

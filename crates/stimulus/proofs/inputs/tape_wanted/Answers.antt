@@ -1,12 +1,11 @@
-use Rattle.std.proofs.Common.{◌<◌, List, length, map, filter, not, sym, subst, ap, ◌∙◌}
+use Rattle.std.proofs.Common.{◌<◌, length, map, filter, not, sym, subst, ap, ◌∙◌}
 use Rattle.std.specs.Prelude.{codes}
 use Rattle.std.specs.Str.{bytes_eq}
 use Rattle.agm_net.specs.Plain.{is_input, ports_but}
 use Rattle.agm_net.specs.WellFormed.{Differ}
 use Rattle.stimulus.proofs.Named.{clock_within, kept_inputs, some_differ}
-use Rattle.stimulus.specs.Asked.{input_of, names_of, tape_inputs}
+use Rattle.stimulus.specs.Asked.{input_of, names_of}
 use Rattle.stimulus.specs.declared.inputs.Input.{Input}
-use Rattle.agm_net.specs.View.{plain_of}
 use Rattle.stimulus.proofs.inputs.tape_wanted.Goals as goal
 
 pub inputs_of-requires : goal.inputs_of-requires

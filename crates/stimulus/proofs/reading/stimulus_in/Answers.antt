@@ -1,8 +1,7 @@
-use Rattle.std.proofs.Common.{◌≡◌, ℕ, List, Option, length, map, sym, subst, inr}
+use Rattle.std.proofs.Common.{◌≡◌, ℕ, List, length, map, sym, subst, inr}
 use Rattle.std.proofs.lemmas.List.{length-map}
 use Rattle.agm_net.specs.Plain.{stored_of}
 use Rattle.agm_net.specs.View.{plain_of}
-use Rattle.serde_json.specs.Data.{Data}
 use Rattle.serde_json.specs.View.{view}
 use Rattle.json_values.specs.Finds.{Finds}
 use Rattle.stimulus.specs.Answer.{Passes, stream_of}

@@ -1,8 +1,8 @@
-use Rattle.std.proofs.Common.{◌≡◌, List, None, length, flat_map, map, sym, ap, subst, ◌∙◌}
+use Rattle.std.proofs.Common.{◌≡◌, List, None, map, sym, ap, subst, ◌∙◌}
 use Rattle.agm_net.specs.View.{plain_of}
 use Rattle.stimulus.proofs.Fitting.{first_wide, rows_wide}
 use Rattle.stimulus.specs.Answer.{row_of}
-use Rattle.stimulus.specs.Asked.{first_fault, tape_asked, tape_inputs, tape_ports}
+use Rattle.stimulus.specs.Asked.{first_fault, tape_asked, tape_inputs}
 use Rattle.stimulus.specs.declared.inputs.Input.{Input}
 use Rattle.stimulus.proofs.tapes.tape_of.Goals as goal
 
