@@ -9,5 +9,4 @@ ghost use Rattle.share_wiring.specs.declared.report.Report.{Report};
 pub fn one_report()
     ensures states { (d : Data) (r s : Report) (v w : ℕ) → States d r v → States d s w → (r ≡ s) × (v ≡ w) }
     ensures answers { (d : Option Data) (a b : Result Report ReportFault) → Answers d a → Answers d b → ((a ≡ Err Memory) ⊎ (b ≡ Err Memory)) ⊎ (a ≡ b) }
-{
-}
+{}

@@ -1,0 +1,11 @@
+//! The text of a design.
+#![tactic(auto)]
+
+mod bytes;
+mod forms;
+mod items;
+mod modules;
+mod names;
+
+pub use items::item_text;
+pub use modules::{design_text, end_text, head_text};
