@@ -15,8 +15,10 @@ mod shown_library;
 mod shown_net;
 mod shown_ports;
 mod shown_probes;
+mod shown_report;
 mod shown_stimulus;
 mod shown_tape;
+mod shown_text;
 mod shown_tokens;
 mod stage;
 
@@ -27,6 +29,8 @@ use crate::shown_function::function_text;
 use crate::shown_library::library_text;
 use crate::shown_net::{agreement_over, net_or_fault, probes_over, stimulus_over, tape_over};
 use crate::shown_ports::{clock_text, ports_text, top_text};
+use crate::shown_report::report_line;
+use crate::shown_text::written_text;
 use crate::shown_tokens::tokens_text;
 use crate::stage::Stage;
 use std::alloc::Global;
@@ -45,6 +49,8 @@ fn of_text(alloc: Global, word: &str, text: &str) -> Result<Option<String>, Fail
             library_text(alloc, library.as_bytes())?
         }
         "design" => design_text(alloc, bytes)?,
+        "written" => written_text(alloc, bytes)?,
+        "report" => report_line(alloc, bytes)?,
         "top" => top_text(alloc, bytes)?,
         "ports" => ports_text(alloc, bytes)?,
         "clock" => clock_text(alloc, bytes)?,

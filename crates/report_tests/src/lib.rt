@@ -1,5 +1,0 @@
-//! Tests of the reader of reports.
-#![tactic(auto)]
-
-#[cfg(test)]
-mod causes;
