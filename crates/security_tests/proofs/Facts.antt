@@ -1,11 +1,11 @@
 -- A net in which a probe sees both shares isolates nothing.
-use Rattle.std.proofs.Common.{◌≡◌, ◌≤◌, ◌<◌, ℕ, zero, suc, Bool, true, false, List, [], ◌∷◌, ◌||◌, eqb-true, length, IsTrue, nat_eq, refl, sym, ◌∙◌, arith, true≢false}
-use Rattle.agm_net.specs.Trace.{Row, bit_at}
+use Rattle.std.proofs.Common.{◌≡◌, ◌≤◌, ℕ, zero, suc, Bool, true, false, List, [], ◌∷◌, ◌||◌, eqb-true, length, IsTrue, nat_eq, refl, sym, arith, true≢false}
+use Rattle.agm_net.specs.Trace.{Row}
 use Rattle.security_tests.specs.Nets.{joined_net, probe}
 use Rattle.twin_tape.specs.Security.{Agree, AreProbes, Pini, sees, seen}
 use Rattle.twin_tape.specs.Tapes.{IsTape, share_bit}
 
-abbrev tape : Bool → Bool → List Row
+abbrev pub tape : Bool → Bool → List Row
 tape a b = (a ∷ b ∷ []) ∷ []
 
 abbrev count : List Row → ℕ
@@ -31,7 +31,7 @@ apart k e = let same : 0 ≡ suc k = eqb-true 0 (suc k) (or_false (nat_eq 0 (suc
     or_false true e = refl
     or_false false e = e
 
-one_probe : AreProbes joined_net 1 (probe 4 0 ∷ [])
+pub one_probe : AreProbes joined_net 1 (probe 4 0 ∷ [])
 one_probe zero other h = (omega arith, omega arith)
 one_probe (suc m) other h = absurd (omega arith)
 

@@ -1,2 +1,3 @@
 mod Facts
 mod OneShare
+mod Told

@@ -1,9 +1,8 @@
 -- One wire of one share isolates probes.
-use Rattle.std.proofs.Common.{◌≡◌, ◌≤◌, ◌<◌, ℕ, zero, suc, Bool, true, false, List, [], ◌∷◌, ◌++◌, ◌||◌, length, IsTrue, nat_eq, refl, sym, ap, ap₂, ◌∙◌, arith, subst}
+use Rattle.std.proofs.Common.{◌≡◌, ◌<◌, ℕ, zero, suc, Bool, true, List, [], ◌∷◌, ◌++◌, ◌||◌, length, IsTrue, nat_eq, refl, sym, ap, ap₂, arith, subst}
 use Rattle.agm_net.specs.Trace.{Row, bit_at}
-use Rattle.probe_cones.specs.declared.probe.Probe.{Probe}
 use Rattle.security_tests.specs.Nets.{share_net}
-use Rattle.twin_tape.specs.Security.{Agree, Pini, seen, sees, role_at}
+use Rattle.twin_tape.specs.Security.{Pini, seen, sees}
 use Rattle.twin_tape.specs.Tapes.{IsTape, share_bit}
 
 -- tapes of one bit a row are the same where their bits are

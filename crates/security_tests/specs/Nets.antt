@@ -1,10 +1,10 @@
 -- Small nets with two shares of a bit x, small enough to count all of their runs.
-use Rattle.std.specs.Prelude.{ℕ, List, [], ◌∷◌, ◌++◌, Option, Some, None, codes}
+use Rattle.std.specs.Prelude.{ℕ, List, [], ◌∷◌, ◌++◌, Some, None, codes}
 use Rattle.agm_net.specs.Formula.{f_wire, f_xor}
 use Rattle.agm_net.specs.Plain.{PlainNet}
 use Rattle.agm_net.specs.declared.port.Port.{Port}
 use Rattle.agm_net.specs.declared.port.Way.{Way}
-use Rattle.agm_net.specs.declared.port.Way.TheVariants.{Input, Output}
+use Rattle.agm_net.specs.declared.port.Way.TheVariants.{Input}
 use Rattle.probe_cones.specs.declared.probe.Probe.{Probe}
 
 abbrev pub one_bit : List ℕ → Way → ℕ → Port

@@ -3,7 +3,7 @@
 ghost use Rattle.std.specs.Prelude.{◌≡◌, ◌∷◌, ℕ, true, false, List, [], map, replicate};
 ghost use Rattle.probe_cones.specs.Cone.{cone};
 ghost use Rattle.security_tests.specs.Nets.{joined_net, probe, share_net, stored_net};
-ghost use Rattle.twin_tape.specs.Security.{Pini, seen};
+ghost use Rattle.twin_tape.specs.Security.{Blind, Pini, seen};
 ghost use Rattle.twin_tape.specs.Tapes.{tapes};
 
 /// A probe of a register's output sees that bit alone; one of an equation sees all inputs behind it.
@@ -27,6 +27,11 @@ pub fn a_glitch_tells()
 /// So that net doesn't isolate one probe.
 pub fn one_equation_is_not_isolated()
     ensures { Pini joined_net 1 → ⊥ }
+{}
+
+/// Nor does it hide the secret: with one probe of the equation an observation comes for a sharing of 0, and never for one of 1.
+pub fn one_equation_is_not_blind()
+    ensures { Blind joined_net 1 → ⊥ }
 {}
 
 /// One wire of one share isolates probes, at every order.
