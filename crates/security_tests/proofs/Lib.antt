@@ -1,3 +1,4 @@
 mod Facts
 mod OneShare
 mod Told
+mod Masked

@@ -7,7 +7,7 @@ use Rattle.security_tests.specs.Nets.{joined_net, probe}
 use Rattle.twin_tape.specs.Security.{Agree, Blind, IsSharing, Secrets, TellsSharings, recombined, role_at, step_of}
 use Rattle.twin_tape.specs.Tapes.{BitRole, Secret, open_bit, random_bit, roles, share_bit}
 
-abbrev x : Secret
+abbrev pub x : Secret
 x = (120 ∷ [], 0)
 
 abbrev always : Bool → Secrets
@@ -18,7 +18,7 @@ abbrev adds_to : Bool → List Row → Bool
 adds_to v inputs = not (xor (xor (bit_at inputs 0 0) (bit_at inputs 0 1)) v)
 
 -- both roles are shares of x
-is_x : (n i : ℕ) (s : Secret) → n < 2 → role_at joined_net n ≡ share_bit i s → x ≡ s
+pub is_x : (n i : ℕ) (s : Secret) → n < 2 → role_at joined_net n ≡ share_bit i s → x ≡ s
 is_x zero i s small e = ap secret_of e
   where
     secret_of : BitRole → Secret

@@ -41,6 +41,17 @@ joined_net = record {
   clock = Some 0;
 }
 
+-- the same sum in two steps: share 0 and the random bit are stored, and share 1 is added to them and stored
+abbrev pub masked_net : PlainNet
+masked_net = record {
+  ports = inputs;
+  wires = input_names ++ codes "agm_d0.q" ∷ codes "agm_p.q" ∷ [];
+  lines = [];
+  registers =
+      record { q = 4; next = f_xor (f_wire 2) (f_wire 1); clock = 0 } ∷ record { q = 5; next = f_xor (f_wire 4) (f_wire 3); clock = 0 } ∷ [];
+  clock = Some 0;
+}
+
 -- share 0 of x, and nothing else
 abbrev pub share_net : PlainNet
 share_net = record {

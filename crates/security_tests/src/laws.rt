@@ -2,9 +2,11 @@
 
 ghost use Rattle.std.specs.Prelude.{◌≡◌, ◌∷◌, ℕ, true, false, List, [], map, replicate};
 ghost use Rattle.probe_cones.specs.Cone.{cone};
-ghost use Rattle.security_tests.specs.Nets.{joined_net, probe, share_net, stored_net};
+ghost use Rattle.security_tests.specs.Nets.{joined_net, masked_net, probe, share_net, stored_net};
 ghost use Rattle.twin_tape.specs.Security.{Blind, Pini, seen};
 ghost use Rattle.twin_tape.specs.Tapes.{tapes};
+
+use twin_tape::{isolation_blinds, twins_isolate};
 
 /// A probe of a register's output sees that bit alone; one of an equation sees all inputs behind it.
 pub fn cones_are_seen()
@@ -38,3 +40,18 @@ pub fn one_equation_is_not_blind()
 pub fn one_share_is_isolated()
     ensures { (d : ℕ) → Pini share_net d }
 {}
+
+/// Both shares with a random bit added, in two registers one behind the other: each of their probes sees one bit that is random.
+pub fn a_masked_sum_is_isolated()
+    ensures { Pini masked_net 1 }
+{
+    twins_isolate();
+}
+
+/// So one probe tells nothing of the secret.
+pub fn a_masked_sum_is_blind()
+    ensures { Blind masked_net 1 }
+{
+    a_masked_sum_is_isolated();
+    isolation_blinds();
+}

@@ -4,6 +4,6 @@
 mod laws;
 
 pub use laws::{
-    a_glitch_tells, cones_are_seen, masked_counts, one_equation_is_not_blind,
-    one_equation_is_not_isolated, one_share_is_isolated,
+    a_glitch_tells, a_masked_sum_is_blind, a_masked_sum_is_isolated, cones_are_seen, masked_counts,
+    one_equation_is_not_blind, one_equation_is_not_isolated, one_share_is_isolated,
 };
