@@ -1,4 +1,5 @@
 mod Facts
+mod Inputs
+mod Masked
 mod OneShare
 mod Told
-mod Masked

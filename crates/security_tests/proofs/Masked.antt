@@ -1,6 +1,6 @@
 -- A net that adds both shares and a random bit, step by step, isolates one probe.
 use Rattle.std.proofs.Common.{◌≡◌, ◌≤◌, ◌<◌, ℕ, zero, suc, Bool, true, false, List, [], ◌∷◌, map, max, drop, length, length-take-le, refl, sym, ap, ap₂, ◌∙◌, arith, subst, slice_index_or}
-use Rattle.std.specs.List.{count_by, range_with_len}
+use Rattle.std.specs.List.{range_with_len}
 use Rattle.std.proofs.lemmas.List.FromFn.{get_or-map-range_with_len, length-map-range_with_len}
 use Rattle.agm_net.specs.Formula.{xor}
 use Rattle.agm_net.specs.Run.{bit_in}
@@ -8,9 +8,9 @@ use Rattle.agm_net.specs.Trace.{Row, bit_at, row_at}
 use Rattle.probe_cones.specs.Cone.{observed}
 use Rattle.security_tests.specs.Nets.{masked_net, probe}
 use Rattle.twin_tape.specs.Laws.{HasTwins, IsCausal, xor_row}
-use Rattle.security_tests.proofs.Told.{is_x}
-use Rattle.twin_tape.specs.Security.{Agree, IsWhole, is_the_share}
-use Rattle.twin_tape.specs.Tapes.{IsTape, roles, bit_roles, bit_with, first_bit, joined, with_random}
+use Rattle.security_tests.proofs.Inputs.{long}
+use Rattle.twin_tape.specs.Security.{Agree}
+use Rattle.twin_tape.specs.Tapes.{IsTape, bit_roles, bit_with, first_bit, joined, with_random}
 
 -- the row of cycle t of a tape that is given cycle by cycle
 row_of : (f : ℕ → Row) (n t : ℕ) → t < n → row_at (map f (range_with_len 0 n)) t ≡ f t
@@ -19,12 +19,6 @@ row_of f n t h = get_or-map-range_with_len f 0 n t t [] h (omega arith)
 second_bit : (row : Row) → first_bit (drop 1 row) ≡ slice_index_or row 1 false
 second_bit [] = refl
 second_bit (b ∷ row) = refl
-
-long : (R T : ℕ) (tape : List Row) → IsTape R T tape → length tape ≡ T
-long R zero [] is = refl
-long R zero (row ∷ tape) is = absurd is
-long R (suc T) [] is = absurd is
-long R (suc T) (row ∷ tape) is = ap suc (long R T tape is.1)
 
 -- the bits of a whole tape: the random bit, share 0 and share 1
 module _ (given random : List Row) (t : ℕ) (h : t < length random) where
@@ -231,12 +225,3 @@ has_twins T [] A inside distinct low few = ([], omega arith, λ power first seco
 has_twins T (p ∷ []) [] inside distinct low few = let ok = inside 0 p (omega arith) in at T p.wire p.cycle ok.0 ok.1
 has_twins T (p ∷ []) (i ∷ A) inside distinct low few = absurd (omega (arith, few))
 has_twins T (p ∷ q ∷ probes) A inside distinct low few = absurd (omega (arith, few))
-
--- one input bit for each of the two shares of x
-pub is_whole : IsWhole masked_net 1
-is_whole n i k s h e low = subst (λ s. count_by (is_the_share k s) (roles masked_net) ≡ 1) (is_x n i s h e) (once k low)
-  where
-    once : (k : ℕ) → k ≤ 1 → count_by (is_the_share k (120 ∷ [], 0)) (roles masked_net) ≡ 1
-    once zero low = refl
-    once (suc zero) low = refl
-    once (suc (suc k)) low = absurd (omega (arith, low))

@@ -1,9 +1,9 @@
 //! Facts that the definitions compute to.
 
-ghost use Rattle.std.specs.Prelude.{◌≡◌, ◌∷◌, ℕ, true, false, List, [], map, replicate};
+ghost use Rattle.std.specs.Prelude.{◌≡◌, ◌∷◌, ℕ, Bool, true, false, List, [], map, replicate};
 ghost use Rattle.probe_cones.specs.Cone.{cone};
-ghost use Rattle.security_tests.specs.Nets.{joined_net, masked_net, probe, share_net, stored_net};
-ghost use Rattle.twin_tape.specs.Security.{Blind, Pini, seen};
+ghost use Rattle.security_tests.specs.Nets.{adds_to, always, joined_net, masked_net, probe, share_net, shares, stored_net};
+ghost use Rattle.twin_tape.specs.Security.{Blind, Pini, TellsSharings, pairs, seen};
 ghost use Rattle.twin_tape.specs.Tapes.{tapes};
 
 use twin_tape::{isolation_blinds, twins_isolate};
@@ -31,27 +31,43 @@ pub fn one_equation_is_not_isolated()
     ensures { Pini joined_net 1 → ⊥ }
 {}
 
-/// Nor does it hide the secret: with one probe of the equation an observation comes for a sharing of 0, and never for one of 1.
-pub fn one_equation_is_not_blind()
-    ensures { Blind joined_net 1 → ⊥ }
-{}
-
 /// One wire of one share isolates probes, at every order.
 pub fn one_share_is_isolated()
     ensures { (d : ℕ) → Pini share_net d }
 {}
 
-/// Both shares with a random bit added, in two registers one behind the other: each of their probes sees one bit that is random.
+/// The tests by the sum of both shares tell the sharings of 0 and of 1.
+pub fn sums_tell_sharings()
+    ensures { (v : Bool) → TellsSharings joined_net 1 1 (shares false false) (always v) (adds_to v) }
+{}
+
+/// A probe of the one equation gives an observation for one sharing of 0 and one of two random tapes, and never for one of 1.
+pub fn a_glitch_tells_the_secret()
+    ensures { (pairs joined_net 1 [] (adds_to false) (probe 4 0 ∷ []) (false ∷ false ∷ false ∷ []) ≡ 1)
+        × (pairs joined_net 1 [] (adds_to true) (probe 4 0 ∷ []) (false ∷ false ∷ false ∷ []) ≡ 0) }
+{}
+
+/// So that net doesn't hide its secret from one probe.
+pub fn one_equation_is_not_blind()
+    ensures { Blind joined_net 1 → ⊥ }
+{}
+
+/// x and a random bit, added in two steps with a register behind each, isolate one probe: it sees one share, or a bit that is random.
 pub fn a_masked_sum_is_isolated()
     ensures { Pini masked_net 1 }
 {
     twins_isolate();
 }
 
-/// So one probe tells nothing of the secret.
+/// So that net hides its secret from one probe.
 pub fn a_masked_sum_is_blind()
     ensures { Blind masked_net 1 }
 {
     a_masked_sum_is_isolated();
     isolation_blinds();
 }
+
+/// But not from two probes, one of each share.
+pub fn two_probes_tell_the_secret()
+    ensures { Blind masked_net 2 → ⊥ }
+{}
