@@ -51,11 +51,13 @@ module _ (power : Row) (tape : List Row) where
   run_3 zero = refl
   run_3 (suc t) = refl
 
-  run_4 : (t : ℕ) → run (suc t) 4 ≡ xor (bit_at tape t 1) (bit_at tape t 0)
-  run_4 t = ap₂ xor (run_2 t) (run_1 t)
+  run_4 : (t : ℕ) → run t 4 ≡ xor (bit_at tape t 1) (bit_at tape t 0)
+  run_4 zero = refl
+  run_4 (suc t) = refl
 
-  run_5 : (t : ℕ) → run (suc t) 5 ≡ xor (run t 4) (bit_at tape t 2)
-  run_5 t = ap (xor (run t 4)) (run_3 t)
+  run_6 : (t : ℕ) → run t 6 ≡ xor (run t 5) (bit_at tape t 2)
+  run_6 zero = refl
+  run_6 (suc t) = refl
 
 -- random tapes, changed where two tapes of inputs differ in share 0
 module _ (first second : List Row) where
@@ -148,18 +150,21 @@ module _ (T : ℕ) (power : Row) (first second random : List Row) (is : IsTape 1
   alike_3 same t h = run_3 power given t ∙ share_1 same t h ∙ sym (run_3 power taken t)
 
   alike_4 : (t : ℕ) → t < T → x t 4 ≡ y t 4
-  alike_4 zero h = refl
-  alike_4 (suc t) h =
-      let low : t < T = omega (arith, h) in
-      run_4 power given t ∙ ap₂ xor (bit_1 first random t (random_first t low)) (bit_0 first random t (random_first t low)) ∙
+  alike_4 t h =
+      run_4 power given t ∙ ap₂ xor (bit_1 first random t (random_first t h)) (bit_0 first random t (random_first t h)) ∙
       same_sum (bit_at first t 0) (bit_at second t 0) (bit_at random t 0) ∙
-      sym (run_4 power taken t ∙ ap₂ xor (bit_1 second (changed first second random) t (random_second t low)) (taken_bit t low))
+      sym (run_4 power taken t ∙ ap₂ xor (bit_1 second (changed first second random) t (random_second t h)) (taken_bit t h))
 
-  alike_5 : ((t : ℕ) → t < T → bit_at first t 1 ≡ bit_at second t 1) → (t : ℕ) → t < T → x t 5 ≡ y t 5
-  alike_5 same zero h = refl
-  alike_5 same (suc t) h =
-      let low : t < T = omega (arith, h) in
-      run_5 power given t ∙ ap₂ xor (alike_4 t low) (share_1 same t low) ∙ sym (run_5 power taken t)
+  alike_5 : (t : ℕ) → t < T → x t 5 ≡ y t 5
+  alike_5 zero h = refl
+  alike_5 (suc t) h = alike_4 t (omega (arith, h))
+
+  alike_6 : ((t : ℕ) → t < T → bit_at first t 1 ≡ bit_at second t 1) → (t : ℕ) → t < T → x t 6 ≡ y t 6
+  alike_6 same t h = run_6 power given t ∙ ap₂ xor (alike_5 t h) (share_1 same t h) ∙ sym (run_6 power taken t)
+
+  alike_7 : ((t : ℕ) → t < T → bit_at first t 1 ≡ bit_at second t 1) → (t : ℕ) → t < T → x t 7 ≡ y t 7
+  alike_7 same zero h = refl
+  alike_7 same (suc t) h = alike_6 same t (omega (arith, h))
 
 -- twins at one probe
 abbrev At : ℕ → ℕ → ℕ → Type 0
@@ -175,50 +180,30 @@ share_0_agrees T first second is agree t h = agree t 0 (subst (λ n. t < n) (sym
 share_1_agrees : (T : ℕ) (first second : List Row) → IsTape 2 T first → Agree masked_net (1 ∷ []) first second → (t : ℕ) → t < T → bit_at first t 1 ≡ bit_at second t 1
 share_1_agrees T first second is agree t h = agree t 1 (subst (λ n. t < n) (sym (long 2 T first is)) h) (omega arith) refl
 
-abbrev seen_bit : Bool → List Bool
-seen_bit b = b ∷ []
+abbrev one_bit : Bool → List Bool
+one_bit b = b ∷ []
 
-at : (T wire cycle : ℕ) → wire < 6 → cycle < T → At T wire cycle
-at T zero t w h = ([], omega arith, λ power first second a b agree. (changed first second, causal first second T, λ r is. refl))
-at T (suc zero) t w h = (
-  0 ∷ [],
-  omega arith,
-  λ power first second a b agree. (
-    changed first second,
-    causal first second T,
-    λ r is. ap seen_bit (alike_1 T power first second r is (share_0_agrees T first second a agree) t h),
-  ),
-)
-at T (suc (suc zero)) t w h = (
-  0 ∷ [],
-  omega arith,
-  λ power first second a b agree. (
-    changed first second,
-    causal first second T,
-    λ r is. ap seen_bit (alike_2 T power first second r is (share_0_agrees T first second a agree) t h),
-  ),
-)
-at T (suc (suc (suc zero))) t w h = (
-  1 ∷ [],
-  omega arith,
-  λ power first second a b agree. (
-    changed first second,
-    causal first second T,
-    λ r is. ap seen_bit (alike_3 T power first second r is (share_1_agrees T first second a agree) t h),
-  ),
-)
+abbrev two_bits : Bool → Bool → List Bool
+two_bits a b = a ∷ b ∷ []
+
+at : (T wire cycle : ℕ) → wire < 8 → cycle < T → At T wire cycle
+at T zero t w h =
+    ([], omega arith, λ power first second a b agree. (changed first second, causal first second T, λ r is. refl))
+at T (suc zero) t w h =
+    (0 ∷ [], omega arith, λ power first second a b agree. (changed first second, causal first second T, λ r is. ap one_bit (alike_1 T power first second r is (share_0_agrees T first second a agree) t h)))
+at T (suc (suc zero)) t w h =
+    (0 ∷ [], omega arith, λ power first second a b agree. (changed first second, causal first second T, λ r is. ap one_bit (alike_2 T power first second r is (share_0_agrees T first second a agree) t h)))
+at T (suc (suc (suc zero))) t w h =
+    (1 ∷ [], omega arith, λ power first second a b agree. (changed first second, causal first second T, λ r is. ap one_bit (alike_3 T power first second r is (share_1_agrees T first second a agree) t h)))
 at T (suc (suc (suc (suc zero)))) t w h =
-    ([], omega arith, λ power first second a b agree. (changed first second, causal first second T, λ r is. ap seen_bit (alike_4 T power first second r is t h)))
-at T (suc (suc (suc (suc (suc zero))))) t w h = (
-  1 ∷ [],
-  omega arith,
-  λ power first second a b agree. (
-    changed first second,
-    causal first second T,
-    λ r is. ap seen_bit (alike_5 T power first second r is (share_1_agrees T first second a agree) t h),
-  ),
-)
-at T (suc (suc (suc (suc (suc (suc wire)))))) t w h = absurd (omega (arith, w))
+    (0 ∷ [], omega arith, λ power first second a b agree. (changed first second, causal first second T, λ r is. ap₂ two_bits (alike_1 T power first second r is (share_0_agrees T first second a agree) t h) (alike_2 T power first second r is (share_0_agrees T first second a agree) t h)))
+at T (suc (suc (suc (suc (suc zero))))) t w h =
+    ([], omega arith, λ power first second a b agree. (changed first second, causal first second T, λ r is. ap one_bit (alike_5 T power first second r is t h)))
+at T (suc (suc (suc (suc (suc (suc zero)))))) t w h =
+    (1 ∷ [], omega arith, λ power first second a b agree. (changed first second, causal first second T, λ r is. ap₂ two_bits (alike_3 T power first second r is (share_1_agrees T first second a agree) t h) (alike_5 T power first second r is t h)))
+at T (suc (suc (suc (suc (suc (suc (suc zero))))))) t w h =
+    (1 ∷ [], omega arith, λ power first second a b agree. (changed first second, causal first second T, λ r is. ap one_bit (alike_7 T power first second r is (share_1_agrees T first second a agree) t h)))
+at T (suc (suc (suc (suc (suc (suc (suc (suc wire)))))))) t w h = absurd (omega (arith, w))
 
 pub has_twins : HasTwins masked_net 1
 has_twins T [] A inside distinct low few = ([], omega arith, λ power first second a b agree. (changed first second, causal first second T, λ r is. refl))

@@ -39,11 +39,11 @@ stored_net = on_inputs (input_names ++ codes "agm_d0.q" ∷ []) [] (register 4 (
 abbrev pub joined_net : PlainNet
 joined_net = on_inputs (input_names ++ codes "agm_p.y" ∷ []) ((4, f_xor (f_xor (f_wire 2) (f_wire 1)) (f_xor (f_wire 3) (f_wire 1))) ∷ []) []
 
--- x and the random bit, added in two steps: share 0 with the random bit is stored, and so is the sum of that and share 1
+-- x and the random bit, added in two steps: the sum of share 0 and the random bit is stored, and so is the sum of that and share 1
 abbrev pub masked_net : PlainNet
 masked_net =
-    on_inputs (input_names ++ codes "agm_d0.q" ∷ codes "agm_p.q" ∷ []) []
-    (register 4 (f_xor (f_wire 2) (f_wire 1)) ∷ register 5 (f_xor (f_wire 4) (f_wire 3)) ∷ [])
+    on_inputs (input_names ++ codes "agm_d0.y" ∷ codes "agm_d0.q" ∷ codes "agm_p.y" ∷ codes "agm_p.q" ∷ [])
+    ((4, f_xor (f_wire 2) (f_wire 1)) ∷ (6, f_xor (f_wire 5) (f_wire 3)) ∷ []) (register 5 (f_wire 4) ∷ register 7 (f_wire 6) ∷ [])
 
 -- a tape of one cycle with these shares
 abbrev pub shares : Bool → Bool → List Row

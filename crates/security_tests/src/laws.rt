@@ -52,7 +52,7 @@ pub fn one_equation_is_not_blind()
     ensures { Blind joined_net 1 → ⊥ }
 {}
 
-/// x and a random bit, added in two steps with a register behind each, isolate one probe: it sees one share, or a bit that is random.
+/// x and a random bit, added in two steps with a register behind each, isolate one probe: what a register holds looks random.
 pub fn a_masked_sum_is_isolated()
     ensures { Pini masked_net 1 }
 {
