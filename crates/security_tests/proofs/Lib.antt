@@ -1,2 +1,5 @@
 mod Facts
+mod Inputs
+mod Masked
 mod OneShare
+mod Told

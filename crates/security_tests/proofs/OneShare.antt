@@ -1,9 +1,9 @@
 -- One wire of one share isolates probes.
-use Rattle.std.proofs.Common.{◌≡◌, ◌≤◌, ◌<◌, ℕ, zero, suc, Bool, true, false, List, [], ◌∷◌, ◌++◌, ◌||◌, length, IsTrue, nat_eq, refl, sym, ap, ap₂, ◌∙◌, arith, subst}
+use Rattle.std.proofs.Common.{◌≡◌, ◌<◌, ℕ, zero, suc, Bool, true, List, [], ◌∷◌, ◌++◌, ◌||◌, length, IsTrue, nat_eq, refl, sym, ap, ap₂, arith, subst}
 use Rattle.agm_net.specs.Trace.{Row, bit_at}
-use Rattle.probe_cones.specs.declared.probe.Probe.{Probe}
+use Rattle.security_tests.proofs.Inputs.{long}
 use Rattle.security_tests.specs.Nets.{share_net}
-use Rattle.twin_tape.specs.Security.{Agree, Pini, seen, sees, role_at}
+use Rattle.twin_tape.specs.Security.{Pini, seen, sees}
 use Rattle.twin_tape.specs.Tapes.{IsTape, share_bit}
 
 -- tapes of one bit a row are the same where their bits are
@@ -23,12 +23,6 @@ same_tapes (suc T) (row ∷ first) (other ∷ second) a b same =
     one (x ∷ []) (y ∷ z ∷ zs) a b e = absurd (omega arith)
     one (x ∷ w ∷ ws) other a b e = absurd (omega arith)
 
-long : (T : ℕ) (tape : List Row) → IsTape 1 T tape → length tape ≡ T
-long zero [] is = refl
-long zero (row ∷ tape) is = absurd is
-long (suc T) [] is = absurd is
-long (suc T) (row ∷ tape) is = ap suc (long T tape is.1)
-
 listed : (A : List ℕ) → IsTrue (sees (A ++ 0 ∷ []) (share_bit 0 (120 ∷ [], 0)))
 listed [] = refl
 listed (i ∷ A) = or_later (nat_eq 0 i) (sees (A ++ 0 ∷ []) (share_bit 0 (120 ∷ [], 0))) (listed A)
@@ -43,5 +37,5 @@ isolated d T (p ∷ probes) A inside distinct low few = (
   omega arith,
   λ power first second a b agree o.
       ap (λ tape. seen share_net T power tape (p ∷ probes) A o)
-      (same_tapes T first second a b (λ t h. agree t 0 (subst (λ n. t < n) (sym (long T first a)) h) (omega arith) (listed A))),
+      (same_tapes T first second a b (λ t h. agree t 0 (subst (λ n. t < n) (sym (long 1 T first a)) h) (omega arith) (listed A))),
 )
