@@ -8,7 +8,7 @@ use Rattle.std.proofs.lemmas.List.Sums.{sum_by-set}
 use Rattle.std.proofs.lemmas.Option.{slice_get_within, get_or_from_slice_get}
 use Rattle.agm_net.specs.Loop.{IsChain, last_of}
 use Rattle.logic_graph.specs.Settled.{bit_of}
-use Rattle.logic_graph.proofs.Lists.{all_joined, any_at, place_of_any}
+use Rattle.agm_net.proofs.Lists.{all_joined, any_at, place_of_any}
 use Rattle.secrecy_spread.specs.declared.reach.Edge.{Edge}
 use Rattle.secrecy_spread.specs.Reach.{is_among, leads, IsReached, AreReached, from_at, last_from, AreLinks, State, noted, IsSpreading, Grows, HasFollowed, HasTurned, HasRun}
 

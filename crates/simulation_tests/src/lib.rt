@@ -12,6 +12,6 @@ mod printed_runs;
 #[cfg(test)]
 mod simulated_nets;
 #[cfg(test)]
-mod stimulus_nets;
-#[cfg(test)]
 mod stimuli;
+#[cfg(test)]
+mod stimulus_nets;

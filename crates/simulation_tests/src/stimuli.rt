@@ -12,11 +12,13 @@ const NO_UTF8: &[u8] =
 fn other_bytes_are_no_json(rt: HostRuntime) -> Result<(), Fail> {
     let net = net(rt.alloc()).map_err(|_| Fail::from("no net"))?;
     match read_stimulus(rt.alloc(), NO_UTF8, &net, net.clock, None) {
-        Err(StimulusFault::Bad {
-            cause: StimulusCause::Json,
-            stream: 0,
-            step: 0,
-        }) => Ok(()),
+        Err(
+            StimulusFault::Bad {
+                cause: StimulusCause::Json,
+                stream: 0,
+                step: 0,
+            },
+        ) => Ok(()),
         _ => Err(Fail::from("another answer")),
     }
 }

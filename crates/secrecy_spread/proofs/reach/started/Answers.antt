@@ -3,7 +3,7 @@ use Rattle.std.proofs.lemmas.Option.{slice_get-get_or, get_or_from_slice_get, sl
 use Rattle.std.proofs.lemmas.Bool.{eqb-true}
 use Rattle.std.specs.List.{AllByRecursion}
 use Rattle.logic_graph.specs.Settled.{bit_of}
-use Rattle.logic_graph.proofs.Lists.{any_at, place_of_any}
+use Rattle.agm_net.proofs.Lists.{any_at, place_of_any}
 use Rattle.secrecy_spread.specs.Reach.{state, State, noted, is_among, IsSpreading}
 use Rattle.secrecy_spread.proofs.Reaching.{noted_spreads, noted_grows, noted_marks}
 use Rattle.secrecy_spread.proofs.reach.started.Goals as goal
