@@ -1,0 +1,6 @@
+mod Marking
+mod LaidRows
+mod Standing
+mod Carrying
+mod Costing
+mod MadeGraph
