@@ -19,7 +19,8 @@ use Rattle.pipeline_balance.specs.Pipelines.{Signals, IsMade}
 use Rattle.pipeline_balance.specs.Growing.{AreInOrder, HasMore}
 use Rattle.pipeline_balance.specs.Shared.{Adds, Agree, placed}
 use Rattle.pipeline_balance.specs.Valued.{is_secret, IsValue}
-use Rattle.pipeline_balance.specs.Chained.{value_at, chain_at, stage, kind_at, places_of, IsChain, AreChains, AreValues, AreSources, IsCarried, AreCarried, IsRead, CanBeMade, node_kind, gadgets_in, HasSources, MakesNode, Within, IsPlanned, has_source, secret_at, first_at, last_at, late_at, IsLayout, NodesMade, gadgets_before, IsFilled}
+use Rattle.pipeline_balance.specs.Machines.{has_source}
+use Rattle.pipeline_balance.specs.Chained.{value_at, chain_at, stage, kind_at, places_of, IsChain, AreChains, AreValues, AreSources, IsCarried, AreCarried, IsRead, CanBeMade, node_kind, gadgets_in, HasSources, MakesNode, Within, IsPlanned, secret_at, first_at, last_at, late_at, IsLayout, NodesMade, gadgets_before, IsFilled}
 use Rattle.pipeline_balance.proofs.Bridges.{agree_made}
 use Rattle.pipeline_balance.proofs.Adding.{adds_none, adds_then, adds_so, value_still}
 use Rattle.pipeline_balance.proofs.Chaining.{has_values, chain_stays}

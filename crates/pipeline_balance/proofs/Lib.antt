@@ -17,3 +17,5 @@ pub mod Registering
 pub mod Piping
 pub mod Raising
 pub mod Laying
+pub mod Porting
+pub mod Recombining

@@ -1,5 +1,5 @@
 -- A trace of a net is a run of each machine that computes what the net does.
-use Rattle.std.proofs.Common.{◌≡◌, ◌<◌, ◌+◌, ◌&&◌, ℕ, zero, suc, Bool, false, not, List, map, length, slice_get, get_or, Some, IsTrue, nat_lt, refl, sym, ap, ap₂, ◌∙◌, arith, inl, inr}
+use Rattle.std.proofs.Common.{◌≡◌, ◌<◌, ◌+◌, ◌&&◌, ℕ, zero, suc, Bool, false, not, List, map, length, slice_get, get_or, Some, IsTrue, nat_lt, refl, sym, ap, ap₂, subst, ◌∙◌, arith, inl, inr}
 use Rattle.std.proofs.lemmas.Bool.{and_parts, ltb-true}
 use Rattle.std.proofs.lemmas.Option.{slice_get-get_or, slice_get_within, get_or_from_slice_get, slice_get_cases}
 use Rattle.agm_net.specs.Formula.{xor, value}
@@ -17,7 +17,8 @@ use Rattle.logic_graph.specs.declared.graphs.Graph.{Graph}
 use Rattle.agm_net.proofs.Lists.{get_image}
 use Rattle.logic_graph.proofs.Held.{held_at}
 use Rattle.logic_graph.proofs.Values.{settled_row, is_settled, tells_bits, trace_cycle}
-use Rattle.pipeline_balance.specs.Machines.{Machine, IsMachineRun, Solves, xan_value, out_node, next_node}
+use Rattle.logic_graph.specs.Machines.{Solves, xan_value}
+use Rattle.pipeline_balance.specs.Machines.{Machine, IsMachineRun, out_node, next_node}
 use Rattle.pipeline_balance.specs.Originals.{IsMachineOf}
 
 -- ---- a graph in order has values
@@ -87,7 +88,9 @@ module _ (net : PlainNet) (graph : Graph) (m : Machine) (well : WellFormed net) 
   -- the values at the sinks
   at_sink : (k j : ℕ) → j < length graph.sinks → values_in k (get_or m.sinks j 0) ≡ bit_of (row_in k) (sink graph j)
   at_sink k j within =
-      of.same (row_at tape k) (held net (bit_at table k)) (row_in k) (values_in k) (is_settled graph.nodes graph.in_order (row_at tape k) (held net (bit_at table k))) (values_solve k) j within
+      ap (λ sinks. values_in k (get_or sinks j 0)) (sym of.sinks)
+      ∙ of.same.same (row_at tape k) (held net (bit_at table k)) (row_in k) (values_in k) (is_settled graph.nodes graph.in_order (row_at tape k) (held net (bit_at table k)))
+      (subst (λ nodes. Solves nodes (inputs_in k) (states_in k) (values_in k)) (sym of.nodes) (values_solve k)) j within
 
   next_value : (k i : ℕ) (r : Stored) → k < length table → slice_get net.registers i ≡ Some r → values_in k (next_node m i) ≡ value (bit_at table k) r.next
   next_value k i r lt at =

@@ -6,7 +6,8 @@ use Rattle.agm_net.specs.Formula.{xor}
 use Rattle.logic_graph.specs.Nodes.{xan_reads_before}
 use Rattle.logic_graph.specs.declared.nodes.XanNode.{XanNode}
 use Rattle.logic_graph.specs.declared.nodes.XanNode.TheVariants.{Zero, One, Input, Q, Not, Xor, And}
-use Rattle.pipeline_balance.specs.Machines.{Machine, IsMachine, IsMachineRun, Solves, xan_value, has_source, out_node, next_node}
+use Rattle.logic_graph.specs.Machines.{Solves, xan_value}
+use Rattle.pipeline_balance.specs.Machines.{Machine, IsMachine, IsMachineRun, has_source, out_node, next_node}
 use Rattle.pipeline_balance.specs.Signals.{Signal, Carries, selected}
 use Rattle.pipeline_balance.specs.Pipelines.{Signals, IsJoined, IsGadget, IsMade, IsPipeline, IsDriven, input_cycle}
 

@@ -7,6 +7,7 @@ use Rattle.pipeline_balance.specs.declared.values.Value.{Value}
 use Rattle.pipeline_balance.specs.declared.values.Value.TheVariants.{Public, Secret}
 use Rattle.pipeline_balance.specs.declared.chains.Chain.{Chain}
 use Rattle.pipeline_balance.specs.declared.chains.Layout.{Layout}
+use Rattle.pipeline_balance.specs.Machines.{has_source}
 use Rattle.pipeline_balance.specs.Signals.{Carries}
 use Rattle.pipeline_balance.specs.Pipelines.{Signals, IsMade}
 use Rattle.pipeline_balance.specs.Shared.{Places, placed, Adds}
@@ -137,12 +138,6 @@ IsPlanned secret levels lasts late_first k (And a b) =
     cond (secret a && secret b)
     ((2 ≤ levels k) × Within levels lasts (cond late_first a b) (levels k - 1) × Within levels lasts (cond late_first b a) (levels k - 2))
     (Within levels lasts a (levels k) × Within levels lasts b (levels k))
-
--- the sources of a node are there
-abbrev pub has_source : (inputs registers : ℕ) → XanNode → Bool
-has_source inputs registers (Input i) = nat_lt i inputs
-has_source inputs registers (Q r) = nat_lt r registers
-has_source inputs registers _ = true
 
 -- what a layout says of nodes
 abbrev pub secret_at : Layout → ℕ → Bool

@@ -13,3 +13,4 @@ pub mod Chained
 pub mod Registered
 pub mod Piped
 pub mod Reaching
+pub mod Ports

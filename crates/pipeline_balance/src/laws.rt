@@ -28,12 +28,12 @@ ghost use Rattle.pipeline_balance.specs.Growing.{AreInOrder, AreMade, HasMore};
 ghost use Rattle.share_wiring.specs.Adds.{AddsFact, Xors, Masks, Holds, Copies, Delays};
 ghost use Rattle.hpc2_gadget.specs.Product.{Multiplies};
 ghost use Rattle.pipeline_balance.specs.declared.chains.Layout.{Layout};
-ghost use Rattle.pipeline_balance.specs.Chained.{node_kind, has_source, secret_at, first_at, last_at, late_at, IsLayout};
+ghost use Rattle.pipeline_balance.specs.Chained.{node_kind, secret_at, first_at, last_at, late_at, IsLayout};
 ghost use Rattle.pipeline_balance.specs.Piped.{node_at, ReachDepth};
 ghost use Rattle.pipeline_balance.specs.Reaching.{flag_at, FitsLevels, AreReached};
 ghost use Rattle.pipeline_balance.specs.Signals.{Signal, Carries, Joins, Products, selected};
 ghost use Rattle.pipeline_balance.specs.Shared.{shared, Places, Agree, placed};
-ghost use Rattle.pipeline_balance.specs.Machines.{Machine, IsMachine, Solves, IsMachineRun, out_node};
+ghost use Rattle.pipeline_balance.specs.Machines.{has_source, Machine, IsMachine, IsMachineRun, out_node};
 ghost use Rattle.pipeline_balance.specs.Pipelines.{Signals, IsJoined, IsGadget, IsMade, IsPipeline, IsDriven, input_cycle};
 
 /// A law: the outputs of a driven pipeline are, in the cycle in which they are read, those of the machine's run.

@@ -6,6 +6,7 @@ mod lasts;
 mod laws;
 mod nodes;
 mod pipeline;
+mod ports;
 mod registers;
 mod values;
 
@@ -16,5 +17,6 @@ pub use laws::{
 };
 pub use nodes::make_nodes;
 pub use pipeline::make_pipeline;
+pub use ports::{ports_in, public_values, shared_values};
 pub use registers::{close_registers, hold_registers};
 pub use values::Value;
