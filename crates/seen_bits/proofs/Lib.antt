@@ -1,0 +1,3 @@
+pub mod Ascending
+pub mod OriginsTold
+pub mod Walking
