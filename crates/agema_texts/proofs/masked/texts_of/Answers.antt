@@ -16,4 +16,4 @@ returns c =
     let masked = c.in_ok-masked.ensures in
     masks_net (plain_of net) c.args.marks.now.kinds c.args.order c.in_ok-net.net (string_bytes c.in_ok-report.report) (string_bytes c.in_ok-line.line)
     (plain_of c.in_ok-masked.masked.net) c.in_ok-masked.masked.report c.small_text_binds.ensures c.renumbered_is_same.ensures c.requires.served (masked.simple, masked.product) masked.same
-    c.in_ok-net.ensures c.in_ok-report.ensures c.in_ok-line.ensures
+    c.in_ok-net.ensures c.in_ok-report.ensures.exact c.in_ok-line.ensures
