@@ -10,10 +10,6 @@ use std::alloc::{AllocError, Global};
 use std::str::from_utf8;
 use std::test::Fail;
 
-/// y = a & b.
-pub(crate) const PRODUCT: &str =
-    "module one(a, b, y); (* AGEMA = \"secure\" *) input a; (* AGEMA = \"secure\" *) input b; output y; AGM_AND2 u (.A(a), .B(b), .Y(y)); endmodule";
-
 /// Which calls fail: the shelf's of this number, and the sink's first.
 #[derive(Clone, Copy)]
 pub(crate) struct Faults {

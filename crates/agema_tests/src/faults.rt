@@ -1,8 +1,9 @@
 //! Faults of files and of the output: each call in turn, and what the files hold afterwards.
 
-use crate::command::{Faults, NO_FAULTS, Outcome, PRODUCT, left_nothing, run_over, run_with};
+use crate::command::{Faults, NO_FAULTS, Outcome, run_over};
 use std::alloc::Global;
 use std::test::Fail;
+use test_netlists::simple::PRODUCT;
 
 const COMMAND: &str = "mask - n.v 1 naive pipe o.v";
 
@@ -121,31 +122,7 @@ fn tell_all(alloc: Global, cases: &[(Option<usize>, bool, &str, Left, Left)]) ->
     Ok(())
 }
 
-/// The same beside a library, which call 0 reads; call 1 reads the netlist.
-const FAULTS_OF_READING: [(Option<usize>, &str); 3] = [
-    (Some(0), "status 3 ReadFault file=l.lib\n"),
-    (Some(1), "status 3 ReadFault file=n.v\n"),
-    (Some(2), "status 4 WriteFault file=o.v\n"),
-];
-
-// Fails at the first fault that is not told so, or that leaves something.
-fn tell_reading(alloc: Global, cases: &[(Option<usize>, &str)]) -> Result<(), Fail> {
-    for (shelf, end) in cases {
-        let faults = Faults {
-            shelf: *shelf,
-            sink: false,
-        };
-        let line = "mask l.lib n.v 1 naive pipe o.v";
-        let found = run_with(alloc, "library (x) { }", PRODUCT, line, faults)?;
-        if !left_nothing(&found, end) {
-            return Err(Fail::from(*end));
-        }
-    }
-    Ok(())
-}
-
 #[test]
 fn tells_faults(rt: HostRuntime) -> Result<(), Fail> {
-    tell_all(rt.alloc(), &FAULTS)?;
-    tell_reading(rt.alloc(), &FAULTS_OF_READING)
+    tell_all(rt.alloc(), &FAULTS)
 }

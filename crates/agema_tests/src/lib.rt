@@ -4,12 +4,26 @@
 #[cfg(test)]
 mod command;
 #[cfg(test)]
+mod complete;
+#[cfg(test)]
+mod evaluated;
+#[cfg(test)]
 mod explained;
 #[cfg(test)]
 mod faults;
 #[cfg(test)]
+mod libraries;
+#[cfg(test)]
 mod limits;
 #[cfg(test)]
-mod memory;
+mod netlists;
+#[cfg(test)]
+mod product;
+#[cfg(test)]
+mod refusals;
+#[cfg(test)]
+mod sims;
+#[cfg(test)]
+mod two_cells;
 #[cfg(test)]
 mod written_nets;

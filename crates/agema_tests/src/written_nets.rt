@@ -1,12 +1,9 @@
 //! Written netlists compute: OUT is run by `sim` at every order, for all values of the inputs and two sharings of each.
 
-use crate::command::{NO_FAULTS, PRODUCT, run_over, run_sim};
+use crate::command::{NO_FAULTS, run_over, run_sim};
 use std::alloc::{AllocError, Global};
 use std::test::Fail;
-
-/// y = x & x.
-const SQUARE: &str =
-    "module square(x, y); (* AGEMA = \"secure\" *) input x; output y; AGM_AND2 u (.A(x), .B(x), .Y(y)); endmodule";
+use test_netlists::simple::{PRODUCT, SQUARE};
 
 /// A netlist with the names of its inputs, and its output for each value of theirs.
 struct Example {

@@ -3,3 +3,5 @@
 
 #[cfg(test)]
 mod annotations_of_designs;
+#[cfg(test)]
+mod top_modules;

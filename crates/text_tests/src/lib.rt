@@ -2,9 +2,13 @@
 #![tactic(auto)]
 
 #[cfg(test)]
+mod cell_libraries;
+#[cfg(test)]
 mod fitting;
 #[cfg(test)]
-mod nested_groups;
+mod functions;
+#[cfg(test)]
+mod liberty_tokens;
 #[cfg(test)]
 mod small_texts;
 #[cfg(test)]

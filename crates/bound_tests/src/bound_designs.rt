@@ -1,16 +1,13 @@
-//! Bound designs as texts.
+//! Whole designs, with the nets that they bind to or the rule that they break.
 
-use crate::agreement::agreement;
-use crate::shown_probes::probes_text;
-use crate::shown_stimulus::stimulus_text;
-use crate::shown_tape::tape_text;
 use agm_bits::{List, Name};
 use agm_net::{Expr, Net, Port, Way};
 use bound_items::BindFault;
-use cell_library::read_library;
+use cell_library::{Library, read_library};
 use net_binding::bind;
 use std::alloc::{AllocError, Global};
 use std::test::Fail;
+use test_netlists::bound::{LIBRARY, NAMES, NETS, PINS, WIRES};
 use verilog_reader::read_design;
 
 fn put_number(alloc: Global, text: &mut String, number: usize) -> Result<(), AllocError> {
@@ -152,65 +149,53 @@ fn fault_text(alloc: Global, fault: &BindFault) -> Result<String, AllocError> {
     }
 }
 
-// What a design binds to over the library of a text.
-fn bound(alloc: Global, library: &str, netlist: &str) -> Result<Result<Net, BindFault>, Fail> {
-    let library = read_library(alloc, library.as_bytes()).map_err(|_| Fail::from("no library"))?;
+// The net that a design binds to, or the rule that it breaks, as a text.
+fn bound_text(alloc: Global, bound: &Result<Net, BindFault>) -> Result<String, AllocError> {
+    match bound {
+        Ok(net) => net_text(alloc, net),
+        Err(fault) => fault_text(alloc, fault),
+    }
+}
+
+fn text_of(alloc: Global, library: &Library, netlist: &str) -> Result<String, Fail> {
     let design = read_design(alloc, netlist.as_bytes()).map_err(|_| Fail::from("no design"))?;
-    let bound = bind(alloc, &library, &design);
-    Ok(bound)
+    let bound = bind(alloc, library, &design);
+    Ok(bound_text(alloc, &bound)?)
 }
 
-/// The net that a design binds to over the library of a text, or the rule that it breaks.
-pub(crate) fn net_or_fault(alloc: Global, library: &str, netlist: &str) -> Result<String, Fail> {
-    match bound(alloc, library, netlist)? {
-        Ok(net) => Ok(net_text(alloc, &net)?),
-        Err(fault) => Ok(fault_text(alloc, &fault)?),
+// Fails at the first design that doesn't bind so.
+fn bind_all(alloc: Global, library: &Library, cases: &[(&str, &str, &str)]) -> Result<(), Fail> {
+    for (rule, netlist, wanted) in cases {
+        let text = text_of(alloc, library, netlist)?;
+        if text.as_str() != *wanted {
+            return Err(Fail::from(*rule));
+        }
     }
+    Ok(())
 }
 
-/// What a comparison of the simulator with a plain evaluator finds on that net.
-pub(crate) fn agreement_over(alloc: Global, library: &str, netlist: &str) -> Result<String, Fail> {
-    match bound(alloc, library, netlist)? {
-        Ok(net) => Ok(String::from_str(alloc, agreement(alloc, &net)?)?),
-        Err(fault) => Ok(fault_text(alloc, &fault)?),
-    }
+// The same over the library of a text.
+fn bind_over(alloc: Global, library: &str, cases: &[(&str, &str, &str)]) -> Result<(), Fail> {
+    let library = read_library(alloc, library.as_bytes()).map_err(|_| Fail::from("no library"))?;
+    bind_all(alloc, &library, cases)
 }
 
-/// What is read of a stimulus of that net.
-pub(crate) fn stimulus_over(
-    alloc: Global,
-    library: &str,
-    netlist: &str,
-    line: &str,
-) -> Result<String, Fail> {
-    match bound(alloc, library, netlist)? {
-        Ok(net) => Ok(stimulus_text(alloc, &net, line)?),
-        Err(fault) => Ok(fault_text(alloc, &fault)?),
-    }
+#[test]
+fn nets_are_bound(rt: HostRuntime) -> Result<(), Fail> {
+    bind_over(rt.alloc(), LIBRARY, &NETS)
 }
 
-/// What is read of a tape of that net.
-pub(crate) fn tape_over(
-    alloc: Global,
-    library: &str,
-    netlist: &str,
-    line: &str,
-) -> Result<String, Fail> {
-    match bound(alloc, library, netlist)? {
-        Ok(net) => Ok(tape_text(alloc, &net, line)?),
-        Err(fault) => Ok(fault_text(alloc, &fault)?),
-    }
+#[test]
+fn wires_are_bound(rt: HostRuntime) -> Result<(), Fail> {
+    bind_over(rt.alloc(), LIBRARY, &WIRES)
 }
 
-/// What is read of a list of probes of that net.
-pub(crate) fn probes_over(
-    alloc: Global,
-    library: &str,
-    netlist: &str,
-    line: &str,
-) -> Result<String, Fail> {
-    match bound(alloc, library, netlist)? {
-        Ok(net) => Ok(probes_text(alloc, &net, line)?),
-        Err(fault) => Ok(fault_text(alloc, &fault)?),
-    }
+#[test]
+fn names_are_bound(rt: HostRuntime) -> Result<(), Fail> {
+    bind_over(rt.alloc(), LIBRARY, &NAMES)
+}
+
+#[test]
+fn pins_are_bound(rt: HostRuntime) -> Result<(), Fail> {
+    bind_over(rt.alloc(), LIBRARY, &PINS)
 }

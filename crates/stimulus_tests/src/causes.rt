@@ -1,0 +1,465 @@
+//! Texts, and what is read of each.
+
+use crate::nets::net;
+use agm_bits::{BitRow, Memory};
+use std::alloc::{AllocError, Global};
+use std::test::Fail;
+use stimulus::{Stimulus, StimulusCause, StimulusFault, Stream, read_stimulus};
+
+// A text, how many streams are allowed, and what is read: its rows, or the cause with its stream and step.
+const CASES: &[(&str, Option<usize>, &str)] = &[
+    // Stimuli: for each stream its initial state and its rows.
+    (
+        "{\"streams\":[{\"initial\":\"01\",\"steps\":[{\"x\":\"10\",\"y\":\"1\"}]}]}",
+        None,
+        "01 101;",
+    ),
+    (
+        "{\"streams\":[{\"initial\":\"01\",\"steps\":[{\"x\":\"10\",\"y\":\"1\"}]}]}",
+        Some(1),
+        "01 101;",
+    ),
+    (
+        " {\"streams\": [ {\"steps\":[{\"y\":\"1\",\"x\":\"10\"},{\"x\":\"01\",\"y\":\"0\"}],\"initial\":\"11\"},\n {\"initial\":\"00\",\"steps\":[{\"x\":\"11\",\"y\":\"0\"},{\"x\":\"00\",\"y\":\"1\"}]} ] } ",
+        Some(2),
+        "11 101 010;00 110 001;",
+    ),
+    // Of equal keys the last one counts, and an escape is the character that it stands for.
+    (
+        "{\"streams\":[{\"initial\":\"01\",\"steps\":[{\"x\":\"9\",\"x\":\"10\",\"y\":\"1\"}]}]}",
+        None,
+        "01 101;",
+    ),
+    (
+        "{\"streams\":[{\"initial\":\"01\",\"steps\":[{\"\\u0078\":\"\\u00310\",\"y\":\"1\"}]}]}",
+        None,
+        "01 101;",
+    ),
+    // No JSON.
+    ("", None, "Json 0 0"),
+    ("{\"streams\":[", None, "Json 0 0"),
+    ("{\"streams\":[1e400]}", None, "Json 0 0"),
+    (
+        "\u{feff}{\"streams\":[{\"initial\":\"01\",\"steps\":[{\"x\":\"10\",\"y\":\"1\"}]}]}",
+        None,
+        "Json 0 0",
+    ),
+    (
+        "{\"streams\":[{\"initial\":\"01\",\"steps\":[{\"x\":\"10\",\"y\":\"1\"}]}]} 1",
+        None,
+        "Json 0 0",
+    ),
+    ("{\"streams\":[\"\\ud800\"]}", None, "Json 0 0"),
+    ("{'streams':[]}", None, "Json 0 0"),
+    // Another key or kind.
+    ("[]", None, "Shape 0 0"),
+    ("1", None, "Shape 0 0"),
+    ("{}", None, "Shape 0 0"),
+    ("{\"streams\":{}}", None, "Shape 0 0"),
+    ("{\"stream\":[]}", None, "Shape 0 0"),
+    ("{\"streams\":[],\"version\":1}", None, "Shape 0 0"),
+    ("{\"streams\":[1]}", None, "Shape 0 0"),
+    ("{\"streams\":[{}]}", None, "Shape 0 0"),
+    ("{\"streams\":[{\"initial\":\"01\"}]}", None, "Shape 0 0"),
+    (
+        "{\"streams\":[{\"initial\":1,\"steps\":[]}]}",
+        None,
+        "Shape 0 0",
+    ),
+    (
+        "{\"streams\":[{\"initial\":\"01\",\"steps\":{}}]}",
+        None,
+        "Shape 0 0",
+    ),
+    (
+        "{\"streams\":[{\"initial\":\"01\",\"steps\":[],\"more\":1}]}",
+        None,
+        "Shape 0 0",
+    ),
+    (
+        "{\"streams\":[{\"Initial\":\"01\",\"steps\":[]}]}",
+        None,
+        "Shape 0 0",
+    ),
+    (
+        "{\"streams\":[{\"initial\":\"01\",\"steps\":[\"x\"]}]}",
+        None,
+        "Shape 0 0",
+    ),
+    (
+        "{\"streams\":[{\"initial\":\"01\",\"steps\":[{\"x\":\"10\",\"y\":1}]}]}",
+        None,
+        "Shape 0 0",
+    ),
+    (
+        "{\"streams\":[{\"initial\":\"01\",\"steps\":[{\"x\":\"10\",\"y\":\"1\"}]},{\"initial\":\"01\",\"steps\":[{\"x\":null}]}]}",
+        None,
+        "Shape 0 0",
+    ),
+    // The number of streams.
+    ("{\"streams\":[]}", None, "Streams 0 0"),
+    (
+        "{\"streams\":[{\"initial\":\"01\",\"steps\":[{\"x\":\"10\",\"y\":\"1\"}]}]}",
+        Some(0),
+        "Streams 0 0",
+    ),
+    (
+        "{\"streams\":[{\"initial\":\"01\",\"steps\":[{\"x\":\"10\",\"y\":\"1\"}]},{\"initial\":\"01\",\"steps\":[{\"x\":\"10\",\"y\":\"1\"}]}]}",
+        Some(1),
+        "Streams 0 0",
+    ),
+    // The number of steps.
+    (
+        "{\"streams\":[{\"initial\":\"01\",\"steps\":[]}]}",
+        None,
+        "Steps 0 0",
+    ),
+    (
+        "{\"streams\":[{\"initial\":\"01\",\"steps\":[]},{\"initial\":\"01\",\"steps\":[]}]}",
+        None,
+        "Steps 0 0",
+    ),
+    (
+        "{\"streams\":[{\"initial\":\"01\",\"steps\":[]},{\"initial\":\"01\",\"steps\":[{\"x\":\"10\",\"y\":\"1\"}]}]}",
+        None,
+        "Steps 0 0",
+    ),
+    (
+        "{\"streams\":[{\"initial\":\"01\",\"steps\":[{\"x\":\"10\",\"y\":\"1\"}]},{\"initial\":\"01\",\"steps\":[]}]}",
+        None,
+        "Steps 1 0",
+    ),
+    (
+        "{\"streams\":[{\"initial\":\"01\",\"steps\":[{\"x\":\"10\",\"y\":\"1\"}]},{\"initial\":\"01\",\"steps\":[{\"x\":\"10\",\"y\":\"1\"}]},{\"initial\":\"01\",\"steps\":[{\"x\":\"10\",\"y\":\"1\"},{\"x\":\"10\",\"y\":\"1\"}]}]}",
+        None,
+        "Steps 2 0",
+    ),
+    (
+        "{\"streams\":[{\"initial\":\"01\",\"steps\":[{\"x\":\"10\",\"y\":\"1\"},{\"x\":\"10\",\"y\":\"1\"}]},{\"initial\":\"01\",\"steps\":[{\"x\":\"10\",\"y\":\"1\"}]}]}",
+        None,
+        "Steps 1 0",
+    ),
+    // The initial state.
+    (
+        "{\"streams\":[{\"initial\":\"\",\"steps\":[{\"x\":\"10\",\"y\":\"1\"}]}]}",
+        None,
+        "Initial 0 0",
+    ),
+    (
+        "{\"streams\":[{\"initial\":\"0\",\"steps\":[{\"x\":\"10\",\"y\":\"1\"}]}]}",
+        None,
+        "Initial 0 0",
+    ),
+    (
+        "{\"streams\":[{\"initial\":\"010\",\"steps\":[{\"x\":\"10\",\"y\":\"1\"}]}]}",
+        None,
+        "Initial 0 0",
+    ),
+    (
+        "{\"streams\":[{\"initial\":\"02\",\"steps\":[{\"x\":\"10\",\"y\":\"1\"}]}]}",
+        None,
+        "Initial 0 0",
+    ),
+    (
+        "{\"streams\":[{\"initial\":\"0x\",\"steps\":[{\"x\":\"10\",\"y\":\"1\"}]}]}",
+        None,
+        "Initial 0 0",
+    ),
+    (
+        "{\"streams\":[{\"initial\":\"01\",\"steps\":[{\"x\":\"10\",\"y\":\"1\"}]},{\"initial\":\"1\",\"steps\":[{\"x\":\"10\",\"y\":\"1\"}]}]}",
+        None,
+        "Initial 1 0",
+    ),
+    (
+        "{\"streams\":[{\"initial\":\"0é\",\"steps\":[{\"x\":\"10\",\"y\":\"1\"}]}]}",
+        None,
+        "Initial 0 0",
+    ),
+    // The names of input ports.
+    (
+        "{\"streams\":[{\"initial\":\"01\",\"steps\":[{\"x\":\"10\"}]}]}",
+        None,
+        "Inputs 0 0",
+    ),
+    (
+        "{\"streams\":[{\"initial\":\"01\",\"steps\":[{\"x\":\"10\",\"y\":\"1\",\"z\":\"0\"}]}]}",
+        None,
+        "Inputs 0 0",
+    ),
+    (
+        "{\"streams\":[{\"initial\":\"01\",\"steps\":[{\"clk\":\"0\",\"x\":\"10\",\"y\":\"1\"}]}]}",
+        None,
+        "Inputs 0 0",
+    ),
+    (
+        "{\"streams\":[{\"initial\":\"01\",\"steps\":[{\"q\":\"0\",\"x\":\"10\",\"y\":\"1\"}]}]}",
+        None,
+        "Inputs 0 0",
+    ),
+    (
+        "{\"streams\":[{\"initial\":\"01\",\"steps\":[{\"x\":\"10\",\"z\":\"1\"}]}]}",
+        None,
+        "Inputs 0 0",
+    ),
+    (
+        "{\"streams\":[{\"initial\":\"01\",\"steps\":[{}]}]}",
+        None,
+        "Inputs 0 0",
+    ),
+    (
+        "{\"streams\":[{\"initial\":\"01\",\"steps\":[{\"X\":\"10\",\"y\":\"1\"}]}]}",
+        None,
+        "Inputs 0 0",
+    ),
+    (
+        "{\"streams\":[{\"initial\":\"01\",\"steps\":[{\"x\":\"10\",\"y\":\"1\"},{\"x\":\"10\",\"y\":\"1\"}]},{\"initial\":\"01\",\"steps\":[{\"x\":\"10\",\"y\":\"1\"},{\"x\":\"10\"}]}]}",
+        None,
+        "Inputs 1 1",
+    ),
+    // The bits of input ports.
+    (
+        "{\"streams\":[{\"initial\":\"01\",\"steps\":[{\"x\":\"1\",\"y\":\"1\"}]}]}",
+        None,
+        "Bits 0 0",
+    ),
+    (
+        "{\"streams\":[{\"initial\":\"01\",\"steps\":[{\"x\":\"100\",\"y\":\"1\"}]}]}",
+        None,
+        "Bits 0 0",
+    ),
+    (
+        "{\"streams\":[{\"initial\":\"01\",\"steps\":[{\"x\":\"1z\",\"y\":\"1\"}]}]}",
+        None,
+        "Bits 0 0",
+    ),
+    (
+        "{\"streams\":[{\"initial\":\"01\",\"steps\":[{\"x\":\"10\",\"y\":\"\"}]}]}",
+        None,
+        "Bits 0 0",
+    ),
+    (
+        "{\"streams\":[{\"initial\":\"01\",\"steps\":[{\"x\":\"10\",\"y\":\"2\"}]}]}",
+        None,
+        "Bits 0 0",
+    ),
+    (
+        "{\"streams\":[{\"initial\":\"01\",\"steps\":[{\"x\":\"\",\"y\":\"1\"}]}]}",
+        None,
+        "Bits 0 0",
+    ),
+    (
+        "{\"streams\":[{\"initial\":\"01\",\"steps\":[{\"x\":\"10\",\"y\":\"1\"},{\"x\":\"10\",\"y\":\"1\"}]},{\"initial\":\"01\",\"steps\":[{\"x\":\"10\",\"y\":\"1\"},{\"x\":\"1\",\"y\":\"1\"}]}]}",
+        None,
+        "Bits 1 1",
+    ),
+    // Two causes, in either order of places: the first cause is told.
+    ("[1,", None, "Json 0 0"),
+    ("{\"streams\":[1],", None, "Json 0 0"),
+    ("{\"streams\":[],\"more\":1}", None, "Shape 0 0"),
+    ("{\"more\":1,\"streams\":[]}", None, "Shape 0 0"),
+    (
+        "{\"streams\":[{\"initial\":\"01\",\"steps\":[]},{\"initial\":\"01\"}]}",
+        Some(1),
+        "Shape 0 0",
+    ),
+    (
+        "{\"streams\":[{\"initial\":\"01\"},{\"initial\":\"01\",\"steps\":[]}]}",
+        Some(1),
+        "Shape 0 0",
+    ),
+    (
+        "{\"streams\":[{\"initial\":\"01\",\"steps\":[]},{\"initial\":\"01\",\"steps\":[{\"x\":\"10\",\"y\":\"1\"}]}]}",
+        Some(1),
+        "Streams 0 0",
+    ),
+    (
+        "{\"streams\":[{\"initial\":\"01\",\"steps\":[{\"x\":\"10\",\"y\":\"1\"}]},{\"initial\":\"01\",\"steps\":[]}]}",
+        Some(1),
+        "Streams 0 0",
+    ),
+    (
+        "{\"streams\":[{\"initial\":\"0\",\"steps\":[{\"x\":\"10\",\"y\":\"1\"}]},{\"initial\":\"01\",\"steps\":[]}]}",
+        None,
+        "Steps 1 0",
+    ),
+    (
+        "{\"streams\":[{\"initial\":\"01\",\"steps\":[{\"x\":\"10\",\"y\":\"1\"}]},{\"initial\":\"0\",\"steps\":[]}]}",
+        None,
+        "Steps 1 0",
+    ),
+    (
+        "{\"streams\":[{\"initial\":\"01\",\"steps\":[]},{\"initial\":\"0\",\"steps\":[{\"x\":\"10\",\"y\":\"1\"}]}]}",
+        None,
+        "Steps 0 0",
+    ),
+    (
+        "{\"streams\":[{\"initial\":\"01\",\"steps\":[{\"x\":\"10\"}]},{\"initial\":\"0\",\"steps\":[{\"x\":\"10\",\"y\":\"1\"}]}]}",
+        None,
+        "Initial 1 0",
+    ),
+    (
+        "{\"streams\":[{\"initial\":\"0\",\"steps\":[{\"x\":\"10\",\"y\":\"1\"}]},{\"initial\":\"01\",\"steps\":[{\"x\":\"10\"}]}]}",
+        None,
+        "Initial 0 0",
+    ),
+    (
+        "{\"streams\":[{\"initial\":\"0\",\"steps\":[{\"x\":\"10\"}]},{\"initial\":\"01\",\"steps\":[{\"x\":\"10\",\"y\":\"1\"}]}]}",
+        None,
+        "Initial 0 0",
+    ),
+    (
+        "{\"streams\":[{\"initial\":\"01\",\"steps\":[{\"x\":\"1\",\"y\":\"1\"}]},{\"initial\":\"0\",\"steps\":[{\"x\":\"10\",\"y\":\"1\"}]}]}",
+        None,
+        "Initial 1 0",
+    ),
+    (
+        "{\"streams\":[{\"initial\":\"0\",\"steps\":[{\"x\":\"10\",\"y\":\"1\"}]},{\"initial\":\"01\",\"steps\":[{\"x\":\"1\",\"y\":\"1\"}]}]}",
+        None,
+        "Initial 0 0",
+    ),
+    (
+        "{\"streams\":[{\"initial\":\"01\",\"steps\":[{\"x\":\"1\",\"y\":\"1\"},{\"x\":\"10\"}]}]}",
+        None,
+        "Inputs 0 1",
+    ),
+    (
+        "{\"streams\":[{\"initial\":\"01\",\"steps\":[{\"x\":\"10\"},{\"x\":\"1\",\"y\":\"1\"}]}]}",
+        None,
+        "Inputs 0 0",
+    ),
+    (
+        "{\"streams\":[{\"initial\":\"01\",\"steps\":[{\"x\":\"1\",\"y\":\"1\"}]},{\"initial\":\"01\",\"steps\":[{\"x\":\"10\",\"y\":\"1\",\"z\":\"0\"}]}]}",
+        None,
+        "Inputs 1 0",
+    ),
+    (
+        "{\"streams\":[{\"initial\":\"01\",\"steps\":[{\"x\":\"10\",\"y\":\"1\",\"z\":\"0\"}]},{\"initial\":\"01\",\"steps\":[{\"x\":\"1\",\"y\":\"1\"}]}]}",
+        None,
+        "Inputs 0 0",
+    ),
+    (
+        "{\"streams\":[{\"initial\":\"01\",\"steps\":[{\"x\":\"1\"}]}]}",
+        None,
+        "Inputs 0 0",
+    ),
+    // One cause at two places: the first place is told.
+    (
+        "{\"streams\":[{\"initial\":\"01\",\"steps\":[{\"x\":\"10\",\"y\":\"1\"}]},{\"initial\":\"01\",\"steps\":[]},{\"initial\":\"01\",\"steps\":[]}]}",
+        None,
+        "Steps 1 0",
+    ),
+    (
+        "{\"streams\":[{\"initial\":\"0\",\"steps\":[{\"x\":\"10\",\"y\":\"1\"}]},{\"initial\":\"0\",\"steps\":[{\"x\":\"10\",\"y\":\"1\"}]}]}",
+        None,
+        "Initial 0 0",
+    ),
+    (
+        "{\"streams\":[{\"initial\":\"01\",\"steps\":[{\"x\":\"10\",\"y\":\"1\"},{\"x\":\"10\"}]},{\"initial\":\"01\",\"steps\":[{\"x\":\"10\"},{\"x\":\"10\",\"y\":\"1\"}]}]}",
+        None,
+        "Inputs 0 1",
+    ),
+    (
+        "{\"streams\":[{\"initial\":\"01\",\"steps\":[{\"x\":\"10\",\"y\":\"1\"},{\"x\":\"1\",\"y\":\"1\"}]},{\"initial\":\"01\",\"steps\":[{\"x\":\"1\",\"y\":\"1\"},{\"x\":\"10\",\"y\":\"1\"}]}]}",
+        None,
+        "Bits 0 1",
+    ),
+];
+
+fn add_row(shown: &mut String, row: &BitRow) -> Result<(), AllocError> {
+    for k in 0..row.len() {
+        shown.push(if row.get(k) { '1' } else { '0' })?;
+    }
+    Ok(())
+}
+
+fn add_stream(shown: &mut String, stream: &Stream) -> Result<(), AllocError> {
+    add_row(shown, &stream.initial)?;
+    for row in stream.steps.as_slice() {
+        shown.push(' ')?;
+        add_row(shown, row)?;
+    }
+    shown.push(';')
+}
+
+fn show(alloc: Global, stimulus: &Stimulus) -> Result<String, AllocError> {
+    let mut shown = String::new(alloc);
+    for stream in stimulus.streams.as_slice() {
+        add_stream(&mut shown, stream)?;
+    }
+    Ok(shown)
+}
+
+fn cause_text(cause: StimulusCause) -> &'static str {
+    match cause {
+        StimulusCause::Json => "Json",
+        StimulusCause::Shape => "Shape",
+        StimulusCause::Streams => "Streams",
+        StimulusCause::Steps => "Steps",
+        StimulusCause::Cycles => "Cycles",
+        StimulusCause::Initial => "Initial",
+        StimulusCause::Inputs => "Inputs",
+        StimulusCause::Bits => "Bits",
+    }
+}
+
+fn show_fault(alloc: Global, fault: StimulusFault) -> Result<String, AllocError> {
+    match fault {
+        StimulusFault::Memory => String::from_str(alloc, "Memory"),
+        StimulusFault::Bad {
+            cause,
+            stream,
+            step,
+        } => {
+            let word = cause_text(cause);
+            format!(in alloc; "{word} {stream} {step}")
+        }
+    }
+}
+
+fn show_answer(
+    alloc: Global,
+    answer: Result<Stimulus, StimulusFault>,
+) -> Result<String, AllocError> {
+    match answer {
+        Ok(stimulus) => show(alloc, &stimulus),
+        Err(fault) => show_fault(alloc, fault),
+    }
+}
+
+fn read(alloc: Global, bytes: &[u8], streams: Option<usize>) -> Result<String, Fail> {
+    let net = net(alloc).map_err(|_| Fail::from("no net"))?;
+    let answer = read_stimulus(alloc, bytes, &net, net.clock, streams);
+    Ok(show_answer(alloc, answer)?)
+}
+
+// The first case whose answer is another one.
+fn first_wrong(
+    alloc: Global,
+    cases: &[(&str, Option<usize>, &str)],
+) -> Result<Option<usize>, Fail> {
+    for (number, (text, streams, wanted)) in cases.iter().enumerate() {
+        let shown = read(alloc, text.as_bytes(), *streams)?;
+        if shown.as_str() != *wanted {
+            return Ok(Some(number));
+        }
+    }
+    Ok(None)
+}
+
+#[test]
+fn each_text_is_read_rightly(rt: HostRuntime) -> Result<(), Fail> {
+    let wrong = first_wrong(rt.alloc(), CASES)?;
+    assert_eq!(rt; wrong, None);
+    Ok(())
+}
+
+// A text that would be a stimulus but for one byte.
+const NO_UTF8: &[u8] =
+    b"{\"streams\":[{\"initial\":\"01\",\"steps\":[{\"x\":\"10\",\"y\":\"1\",\"\xff\":\"\"}]}]}";
+
+#[test]
+fn other_bytes_are_no_json(rt: HostRuntime) -> Result<(), Fail> {
+    let shown = read(rt.alloc(), NO_UTF8, None)?;
+    assert_eq!(rt; shown.as_str(), "Json 0 0");
+    Ok(())
+}

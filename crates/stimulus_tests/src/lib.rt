@@ -1,0 +1,7 @@
+//! Tests of the reader of stimuli.
+#![tactic(auto)]
+
+#[cfg(test)]
+mod causes;
+#[cfg(test)]
+mod nets;
