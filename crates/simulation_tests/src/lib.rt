@@ -11,7 +11,3 @@ mod graphs;
 mod printed_runs;
 #[cfg(test)]
 mod simulated_nets;
-#[cfg(test)]
-mod stimuli;
-#[cfg(test)]
-mod stimulus_nets;
