@@ -1,7 +1,7 @@
 -- What drives each wire of a well-formed net.
 use Rattle.std.proofs.Common.{◌≡◌, ◌<◌, ◌≤◌, ◌+◌, ◌==◌, ◌&&◌, ◌||◌, ℕ, zero, suc, Bool, true, false, List, [], ◌∷◌, length, IsTrue, Some, slice_get, count_by, refl, sym, ap, ◌∙◌, subst, arith, zero-add, inl, inr, eq-eqb}
 use Rattle.std.specs.List.{list_any}
-use Rattle.std.proofs.lemmas.Bool.{eqb-true, cases_Bool}
+use Rattle.std.proofs.lemmas.Bool.{eqb-true, cases_Bool, false_from_ne_true}
 use Rattle.agm_net.specs.Formula.{stands, reads_below}
 use Rattle.agm_net.specs.Loop.{reads}
 use Rattle.agm_net.specs.Plain.{Line, Stored, PlainNet, input_bits, clock_bits}
@@ -161,6 +161,26 @@ module _ (net : PlainNet) (well : WellFormed net) where
       by_kind (d_input n) h read = absurd (let no : false ≡ true = read in cc)
       by_kind d_clock h read = absurd (let no : false ≡ true = read in cc)
       by_kind d_nothing h read = absurd h
+
+  -- what is no wire has no driver
+  pub undriven : (w : ℕ) → length net.wires ≤ w → driver net w ≡ d_nothing
+  undriven w past =
+      first_none (λ (l : Line). l.0 == w) (λ n l. d_equation l.1) 0 net.lines _
+      (false_from_ne_true (list_any (λ (l : Line). l.0 == w) net.lines) (λ some.
+      let found = place_of_any (λ (l : Line). l.0 == w) net.lines some in
+      not_here (d_equation found.1.1) (found.0, found.2 ∙ ap (λ v. Some (v, found.1.1)) (eqb-true found.1.0 w found.3))))
+      ∙ (first_none (λ (r : Stored). r.q == w) (λ n r. d_register n r.next) 0 net.registers _
+      (false_from_ne_true (list_any (λ (r : Stored). r.q == w) net.registers) (λ some.
+      let found = place_of_any (λ (r : Stored). r.q == w) net.registers some in
+      not_here (d_register found.0 found.1.next) (found.1, found.2, eqb-true found.1.q w found.3, refl)))
+      ∙ (first_none (λ b. b == w) (λ n b. d_input n) 0 (input_bits net) _
+      (false_from_ne_true (list_any (λ b. b == w) (input_bits net)) (λ some.
+      let found = place_of_any (λ b. b == w) (input_bits net) some in
+      not_here (d_input found.0) (found.2 ∙ ap Some (eqb-true found.1 w found.3))))
+      ∙ first_none (λ b. b == w) (λ n b. d_clock) 0 (clock_bits net) d_nothing (false_from_ne_true (list_any (λ b. b == w) (clock_bits net)) (not_here d_clock))))
+    where
+      not_here : (d : Driver) → HasDriver net d w → Prim.⊥
+      not_here d h = let lt = driven_is_wire d w h in omega arith
 
   -- each wire has one equation at most
   pub line_once : (w : ℕ) → count_by (λ l. l.0 == w) net.lines ≤ 1

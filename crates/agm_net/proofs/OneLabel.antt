@@ -61,38 +61,38 @@ pub one_share : (i j : ℕ) (name : List ℕ) → IsShareName i name → IsShare
 one_share i j name p q = same_share i j name (share_small i name p) (share_small j name q) (share_form i name p) (share_form j name q)
 
 -- The families of names that begin with `agm_`, told by a byte or two behind: 1 the clock, 2 public, 3 random, 4 a share, 5 a part.
-abbrev by_byte : ℕ → ℕ
+abbrev pub by_byte : ℕ → ℕ
 by_byte c = cond (c == 99) 1 (cond (c == 108) 2 (cond (c == 112) 2 (cond (c == 114) 3 (cond (c == 115) 4 (cond (c == 100) 4 5)))))
 
-abbrev family : List ℕ → ℕ
+abbrev pub family : List ℕ → ℕ
 family rest = cond (get_or rest 0 0 == 113) (by_byte (get_or rest 2 0)) (by_byte (get_or rest 0 0))
 
-abbrev IsIn : ℕ → List ℕ → Type 0
+abbrev pub IsIn : ℕ → List ℕ → Type 0
 IsIn k name = (rest : List ℕ) × (name ≡ codes "agm_" ++ rest) × (family rest ≡ k)
 
-one_family : (k l : ℕ) (name : List ℕ) → IsIn k name → IsIn l name → k ≡ l
+pub one_family : (k l : ℕ) (name : List ℕ) → IsIn k name → IsIn l name → k ≡ l
 one_family k l name (x, e, p) (y, f, q) = let same : x ≡ y = (let both = sym e ∙ f in cc) in sym p ∙ (ap family same ∙ q)
 
-no_user : (k : ℕ) (name : List ℕ) → IsUserName name → IsIn k name → Prim.⊥
+pub no_user : (k : ℕ) (name : List ℕ) → IsUserName name → IsIn k name → Prim.⊥
 no_user k name user (x, e, p) = user x e
 
-public_in : (name : List ℕ) → IsPublicName name → IsIn 2 name
+pub public_in : (name : List ℕ) → IsPublicName name → IsIn 2 name
 public_in name (inl (inl e)) = (codes "load", e, refl)
 public_in name (inl (inr (k, small, e))) = (codes "load" ++ 91 ∷ (decimal k ++ 93 ∷ []), e, refl)
 public_in name (inr (inl (inl e))) = (codes "q_p", e, refl)
 public_in name (inr (inl (inr (k, small, e)))) = (codes "q_p" ++ 91 ∷ (decimal k ++ 93 ∷ []), e, refl)
 public_in name (inr (inr (rest, some, e))) = (112 ∷ 46 ∷ rest, e, refl)
 
-random_in : (name : List ℕ) → IsBitOf (codes "agm_r") name → IsIn 3 name
+pub random_in : (name : List ℕ) → IsBitOf (codes "agm_r") name → IsIn 3 name
 random_in name (inl e) = (codes "r", e, refl)
 random_in name (inr (k, small, e)) = (codes "r" ++ 91 ∷ (decimal k ++ 93 ∷ []), e, refl)
 
-form_in : (i : ℕ) (name : List ℕ) → ShareForm i name → IsIn 4 name
+pub form_in : (i : ℕ) (name : List ℕ) → ShareForm i name → IsIn 4 name
 form_in i name (of_port x e) = (115 ∷ (decimal i ++ 95 ∷ x), e, refl)
 form_in i name (of_state t h e) = (113 ∷ 95 ∷ 115 ∷ (decimal i ++ t), e, refl)
 form_in i name (of_inner x e) = (100 ∷ (decimal i ++ 46 ∷ x), e, refl)
 
-part_in : (d : ℕ) (p : Part) (name : List ℕ) → IsPartName d p name → IsIn 5 name
+pub part_in : (d : ℕ) (p : Part) (name : List ℕ) → IsPartName d p name → IsIn 5 name
 part_in d p name h = (103 ∷ (decimal p.gadget ++ 46 ∷ part_text (d + 1) p.kind p.i p.j), h.4, refl)
 
 inner_label : (k : PartKind) (p : Part) → IsTrue (is_inner_kind k) → part_label k p ≡ Inner p

@@ -1,13 +1,12 @@
 -- Held wires that get their next values.
-use Rattle.std.proofs.Common.{◌≡◌, ◌≢◌, ◌<◌, ◌≤◌, ◌+◌, ◌++◌, ℕ, zero, suc, Bool, List, [], ◌∷◌, length, map, filter, get_or, refl, sym, ap, subst, inl, inr, ◌∙◌, arith, IsTrue, nat_lt}
+use Rattle.std.proofs.Common.{◌≡◌, ◌≢◌, ◌<◌, ◌+◌, ◌++◌, ℕ, zero, suc, Bool, List, [], ◌∷◌, length, get_or, refl, sym, ap, subst, inl, inr, ◌∙◌, arith, IsTrue, nat_lt}
 use Rattle.std.specs.List.{AllByRecursion}
 use Rattle.std.proofs.lemmas.Bool.{cases_eq, and_from, lt-ltb}
 use Rattle.std.proofs.lemmas.List.{get_or-set_same, get_or-set_other, length-set}
-use Rattle.agm_net.specs.Plain.{is_input}
-use Rattle.share_wiring.specs.Wiring.{Wiring, IsRun, Keeps, source_at, names, share, IsSharing, MayBeShare}
-use Rattle.share_wiring.specs.Own.{with_source, closed_wires, own_name, own_wires, source_of, upto}
+use Rattle.share_wiring.specs.Wiring.{Wiring, IsRun, Keeps, source_at, names, share, IsSharing}
+use Rattle.share_wiring.specs.Own.{with_source, closed_wires, own_name, upto}
 use Rattle.share_wiring.specs.Adds.{AddsStep, AreHeld, Delays}
-use Rattle.share_wiring.specs.Built.{source_fits, IsBuilt, HasItsBits, LeavesFree, IsInnerOrBit, AreDistinct, input_uses, uses}
+use Rattle.share_wiring.specs.Built.{source_fits, IsBuilt, LeavesFree, AreDistinct, input_uses}
 use Rattle.share_wiring.specs.declared.gate.Source.{Source}
 use Rattle.share_wiring.specs.declared.gate.Source.TheVariants.{Equation, Register, Held}
 use Rattle.share_wiring.specs.declared.gate.Gate.TheVariants.{Zero}
@@ -15,10 +14,10 @@ use Rattle.share_wiring.specs.declared.gate.Wire.{Wire}
 use Rattle.share_wiring.specs.declared.gate.Step.TheVariants as step
 use Rattle.share_wiring.proofs.Grown.{none, source_back}
 use Rattle.share_wiring.proofs.Runs.{run_at}
-use Rattle.share_wiring.proofs.OwnWires.{some_wire, get-upto}
+use Rattle.share_wiring.proofs.OwnWires.{get-upto}
 
 -- names and numbers stay
-with_names : (wires : List Wire) (w : ℕ) (s : Source) → names (with_source wires w s) ≡ names wires
+pub with_names : (wires : List Wire) (w : ℕ) (s : Source) → names (with_source wires w s) ≡ names wires
 with_names [] w s = refl
 with_names (x ∷ xs) zero s = refl
 with_names (x ∷ xs) (suc w) s = ap (λ ns. x.name ∷ ns) (with_names xs w s)
@@ -26,13 +25,13 @@ with_names (x ∷ xs) (suc w) s = ap (λ ns. x.name ∷ ns) (with_names xs w s)
 abbrev renewed : List Wire → ℕ → Source → Wire
 renewed wires w s = record { name = (get_or wires w none).name; source = s }
 
-with_length : (wires : List Wire) (w : ℕ) (s : Source) → length (with_source wires w s) ≡ length wires
+pub with_length : (wires : List Wire) (w : ℕ) (s : Source) → length (with_source wires w s) ≡ length wires
 with_length wires w s = length-set wires w (renewed wires w s)
 
-with_here : (wires : List Wire) (w : ℕ) (s : Source) → w < length wires → source_at (with_source wires w s) w ≡ s
+pub with_here : (wires : List Wire) (w : ℕ) (s : Source) → w < length wires → source_at (with_source wires w s) w ≡ s
 with_here wires w s lt = ap (λ (x : Wire). x.source) (get_or-set_same wires w (renewed wires w s) none lt)
 
-with_other : (wires : List Wire) (w v : ℕ) (s : Source) → v ≢ w → source_at (with_source wires w s) v ≡ source_at wires v
+pub with_other : (wires : List Wire) (w v : ℕ) (s : Source) → v ≢ w → source_at (with_source wires w s) v ≡ source_at wires v
 with_other wires w v s other = ap (λ (x : Wire). x.source) (get_or-set_other wires w v (renewed wires w s) none other)
 
 -- a wire that is held is one of the wires
@@ -99,7 +98,7 @@ module _ (held next : ℕ → ℕ) (wires : List Wire) where
       with_other (closed_wires n held next wires) (held n) v (Register (next n) 0) (other n (omega arith)) ∙ closed_other n v (λ i lt. other i (omega arith))
 
   -- the next one is still held
-  still_held : (n : ℕ) → ((i : ℕ) → i < suc n → source_at wires (held i) ≡ Held) → ((i j : ℕ) → i < suc n → j < suc n → held i ≡ held j → i ≡ j)
+  pub still_held : (n : ℕ) → ((i : ℕ) → i < suc n → source_at wires (held i) ≡ Held) → ((i j : ℕ) → i < suc n → j < suc n → held i ≡ held j → i ≡ j)
       → source_at (closed_wires n held next wires) (held n) ≡ Held
   still_held n are apart =
       closed_other n (held n) (λ i lt e. (let same = apart n i (omega arith) (omega arith) e in omega (arith, same))) ∙ are n (omega arith)

@@ -1,139 +1,45 @@
--- Every stimulus drives a net with the ports of a masked net, where the original has no registers.
-use Rattle.std.proofs.Common.{◌≡◌, ◌≢◌, ◌<◌, ◌≤◌, ◌+◌, ◌-◌, ◌*◌, ◌/◌, ◌%◌, ◌^◌, ◌==◌, ◌++◌, ℕ, zero, suc, Bool, true, false, cond, List, [], ◌∷◌, Option, None, Some, map, filter, take, drop, reverse, length, flat_map, slice_get, IsTrue, nat_lt, refl, sym, ap, ap₂, subst, inl, inr, ◌∙◌, arith, codes, bytes_eq, zero-add, mul-le-mul_left, mul-suc, mul_comm, eq-eqb}
-use Rattle.std.specs.List.{AllByRecursion, list_any, range_with_len}
-use Rattle.std.proofs.lemmas.Bool.{cases_Bool, or_left, or_right, cond-true, cond-false, false_from_ne_true}
-use Rattle.std.proofs.lemmas.List.{length-map, length-append, map-append}
+-- Every stimulus drives a net with the ports of a masked net.
+use Rattle.std.proofs.Common.{◌≡◌, ◌≢◌, ◌<◌, ◌≤◌, ◌+◌, ◌-◌, ◌*◌, ◌/◌, ◌%◌, ◌==◌, ◌++◌, ℕ, zero, suc, Bool, true, false, cond, List, [], ◌∷◌, Option, None, Some, map, filter, take, drop, reverse, length, flat_map, slice_get, IsTrue, nat_lt, refl, sym, ap, ap₂, subst, inl, inr, ◌∙◌, arith, codes, bytes_eq, zero-add, mul-le-mul_left, mul-suc, mul_comm, eq-eqb}
+use Rattle.std.specs.Prelude.{nat_eq}
+use Rattle.std.specs.List.{AllByRecursion, list_any, range_with_len, starts_with}
+use Rattle.std.proofs.lemmas.Bool.{cases_Bool, both_ways, or_left, or_right, cond-true, cond-false, false_from_ne_true}
+use Rattle.std.proofs.lemmas.List.{length-map, length-reverse, map-append, reverse-reverse}
 use Rattle.std.proofs.lemmas.List.FromFn.{length-map-range_with_len, get_or-map-range_with_len}
 use Rattle.std.proofs.lemmas.List.Folds.{list_any-append}
 use Rattle.std.proofs.lemmas.Nat.{div-mul-add, mod-mul-add}
 use Rattle.std.proofs.lemmas.Slice.Eq.{bytes_eq-Decides}
-use Rattle.agm_net.specs.Formula.{xor}
 use Rattle.agm_net.specs.Loop.{HasNoLoop}
 use Rattle.agm_net.specs.Plain.{PlainNet, is_in, is_input, input_bits, data_ports, ports_but}
 use Rattle.agm_net.specs.Run.{run_of}
 use Rattle.agm_net.specs.Role.{share_name, state_name}
 use Rattle.agm_net.specs.Trace.{Row, row_at, bit_at, IsTrace}
-use Rattle.agm_net.specs.WellFormed.{Differ, WellFormed}
+use Rattle.agm_net.specs.WellFormed.{WellFormed}
+use Rattle.agm_net.specs.declared.mark.Mark.{Mark}
 use Rattle.agm_net.specs.declared.port.Port.{Port}
 use Rattle.agm_net.specs.declared.port.Way.{Way}
 use Rattle.agm_net.specs.declared.port.Way.TheVariants.{Input, Output}
 use Rattle.agm_net.proofs.Driving.{input_once}
 use Rattle.agm_net.proofs.Traces.{run_is_trace}
-use Rattle.agm_net.proofs.Lists.{all_joined, all_of_one, get_image}
-use Rattle.share_wiring.specs.Recombine.{xor_rows, recombined_rows, port_value, is_shared, masked_value}
-use Rattle.share_wiring.specs.Shape.{Shape, Header, header_of, indices, input_of_width, one_input, masked_headers}
-use Rattle.share_wiring.specs.Schedule.{Stream, stream_at, load_cycles, IsInputCycle, reading_cycle, input_values, Drives}
-use Rattle.share_wiring.specs.Driven.{IsStateless, IsStimulus}
+use Rattle.agm_net.proofs.Lists.{all_from, all_joined, all_of_one, all_places}
+use Rattle.share_wiring.specs.Recombine.{recombined_rows, port_value, is_shared, masked_value}
+use Rattle.share_wiring.specs.Shape.{Shape, Header, header_of, indices, input_of_width, one_input, masked_headers, headers_of}
+use Rattle.share_wiring.specs.Same.{TellsSecrets}
+use Rattle.share_wiring.specs.Schedule.{Stream, stream_at, load_cycles, chosen, IsInputCycle, reading_cycle, input_values, Drives}
+use Rattle.share_wiring.specs.Driven.{IsStimulus}
+use Rattle.share_wiring.specs.ReportOf.{ReportOf}
 use Rattle.share_wiring.specs.declared.report.Report.{Report}
+use Rattle.share_wiring.specs.declared.report.Mode.{Mode}
+use Rattle.share_wiring.specs.declared.report.Balance.TheVariants.{Pipe}
+use Rattle.share_wiring.proofs.DrivenRows.{resize, resize_same, first_alone, first_count, first_recombines, chosen_secret, chosen_public, all_flat, always, one_of_flat, one_number, flat_map_same, Entry, header_in, wide_entries, wide_headers, wide_count, share_entry, masked_entries, masked_entry_headers, all_bits, wanted, wanted_count, cut_first}
 use Rattle.share_wiring.proofs.Given.{given, given_row}
-use Rattle.share_wiring.proofs.Lists.{all_in_range, agree_at, map_flat_map, flat_map_nothing}
-use Rattle.share_wiring.proofs.Names.{names_apart}
-use Rattle.share_wiring.proofs.Ports.{bits_named, rows_recombine}
-use Rattle.share_wiring.proofs.ShapePorts.{IsOneOf, one_at, data_port, HasPort, share_port, load_port, width, port_bits, bit_count}
-
--- ---- rows that are made as long as they are to be
-
-abbrev resize : ℕ → Row → Row
-resize zero xs = []
-resize (suc n) [] = false ∷ resize n []
-resize (suc n) (x ∷ xs) = x ∷ resize n xs
-
-resize_count : (n : ℕ) (xs : Row) → length (resize n xs) ≡ n
-resize_count zero xs = refl
-resize_count (suc n) [] = ap suc (resize_count n [])
-resize_count (suc n) (x ∷ xs) = ap suc (resize_count n xs)
-
-resize_same : (n : ℕ) (xs : Row) → length xs ≡ n → resize n xs ≡ xs
-resize_same zero [] e = refl
-resize_same zero (x ∷ xs) e = absurd (omega arith)
-resize_same (suc n) [] e = absurd (omega arith)
-resize_same (suc n) (x ∷ xs) e = ap (λ ys. x ∷ ys) (resize_same n xs (omega arith))
-
-xor_false : (x : Bool) → xor x false ≡ x
-xor_false false = refl
-xor_false true = refl
-
-xor_nothing : (n : ℕ) (xs : Row) → length xs ≡ n → xor_rows xs (resize n []) ≡ xs
-xor_nothing zero [] e = refl
-xor_nothing zero (x ∷ xs) e = absurd (omega arith)
-xor_nothing (suc n) [] e = absurd (omega arith)
-xor_nothing (suc n) (x ∷ xs) e = ap₂ (λ y ys. y ∷ ys) (xor_false x) (xor_nothing n xs (omega arith))
-
--- a row in share 0, and nothing in the others
-first_alone : (d n : ℕ) (row : ℕ → Row) (xs : Row) → length xs ≡ n → row 0 ≡ xs → ((i : ℕ) → suc i ≤ d → row (suc i) ≡ resize n []) → recombined_rows d row ≡ xs
-first_alone zero n row xs long first rest = first
-first_alone (suc d) n row xs long first rest = ap₂ xor_rows (first_alone d n row xs long first (λ i le. rest i (omega arith))) (rest d (omega arith)) ∙ xor_nothing n xs long
-
--- ---- values of ports by their names
-
-abbrev lookup : List (List ℕ × Row) → List ℕ → Row
-lookup [] name = []
-lookup (e ∷ es) name = cond (bytes_eq e.0 name) e.1 (lookup es name)
-
--- the load signal, and each port of the original in its share 0
-abbrev entry : (ℕ → Bool) → Port → List ℕ × Row
-entry bit p = (share_name 0 p.name, map bit p.bits)
-
-abbrev entries : Bool → (ℕ → Bool) → List Port → List (List ℕ × Row)
-entries load bit ports = (codes "agm_load", load ∷ []) ∷ map (entry bit) ports
+use Rattle.share_wiring.proofs.Lists.{all_in_range, all_below, all_front, all_back, agree_at, map_flat_map, flat_map_nothing}
+use Rattle.share_wiring.proofs.Ports.{bits_named}
+use Rattle.share_wiring.proofs.ShapePorts.{IsOneOf, data_port, HasPort, width, port_bits, bit_count}
 
 pub within_mapped : {X Y : Type 0} (f : X → Y) (xs : List X) (n : ℕ) (x : X) → slice_get xs n ≡ Some x → n < length (map f xs)
 within_mapped f [] n x at = absurd (cc)
 within_mapped f (y ∷ ys) zero x at = omega arith
 within_mapped f (y ∷ ys) (suc n) x at = let rest = within_mapped f ys n x at in omega (arith, rest)
-
-own_entry : (bit : ℕ → Bool) (ports : List Port) (n : ℕ) (p : Port) → Differ (map (λ q. q.name) ports) → slice_get ports n ≡ Some p → lookup (map (entry bit) ports) (share_name 0 p.name) ≡ map bit p.bits
-own_entry bit [] n p differ at = absurd (cc)
-own_entry bit (q ∷ qs) zero p differ at =
-    let is : q ≡ p = cc in
-    let same : IsTrue (bytes_eq (share_name 0 q.name) (share_name 0 p.name)) = (bytes_eq-Decides (share_name 0 q.name) (share_name 0 p.name)).1 (ap (λ r. share_name 0 r.name) is) in
-    cond-true (bytes_eq (share_name 0 q.name) (share_name 0 p.name)) (map bit q.bits) (lookup (map (entry bit) qs) (share_name 0 p.name)) same ∙ ap (λ r. map bit r.bits) is
-own_entry bit (q ∷ qs) (suc n) p differ at =
-    let within = within_mapped (λ r. r.name) qs n p at in
-    let apart : bytes_eq (share_name 0 q.name) (share_name 0 p.name) ≡ false = false_from_ne_true (bytes_eq (share_name 0 q.name) (share_name 0 p.name)) (λ h.
-    let same = (names_apart 0 0 q.name p.name (omega arith) (omega arith) ((bytes_eq-Decides (share_name 0 q.name) (share_name 0 p.name)).0 h)).1 in
-    differ 0 (suc n) (omega arith) (omega (arith, within)) (ap (λ x. Some x) same ∙ sym (get_image (λ r. r.name) qs n p at))) in
-    cond-false (bytes_eq (share_name 0 q.name) (share_name 0 p.name)) (map bit q.bits) (lookup (map (entry bit) qs) (share_name 0 p.name)) apart
-    ∙ own_entry bit qs n p (λ v w lt below. differ (suc v) (suc w) (omega (arith, lt)) (omega (arith, below))) at
-
-no_entry : (bit : ℕ → Bool) (ports : List Port) (i : ℕ) (x : List ℕ) → suc i < 2 ^ 64 → lookup (map (entry bit) ports) (share_name (suc i) x) ≡ []
-no_entry bit [] i x small = refl
-no_entry bit (q ∷ qs) i x small =
-    let apart : bytes_eq (share_name 0 q.name) (share_name (suc i) x) ≡ false = false_from_ne_true (bytes_eq (share_name 0 q.name) (share_name (suc i) x)) (λ h.
-    let same = (names_apart 0 (suc i) q.name x (omega arith) small ((bytes_eq-Decides (share_name 0 q.name) (share_name (suc i) x)).0 h)).0 in omega (arith, same)) in
-    cond-false (bytes_eq (share_name 0 q.name) (share_name (suc i) x)) (map bit q.bits) (lookup (map (entry bit) qs) (share_name (suc i) x)) apart ∙ no_entry bit qs i x small
-
--- ---- bits for the wires of ports
-
-abbrev wanted : List (List ℕ × Row) → Port → Row
-wanted es q = resize (length q.bits) (lookup es q.name)
-
-abbrev all_bits : List Port → List ℕ
-all_bits ports = flat_map (λ q. q.bits) ports
-
-abbrev put : List Port → List (List ℕ × Row) → ℕ → Bool
-put ports es = given (all_bits ports) (flat_map (wanted es) ports)
-
-wanted_count : (es : List (List ℕ × Row)) (ports : List Port) → length (flat_map (wanted es) ports) ≡ length (all_bits ports)
-wanted_count es [] = refl
-wanted_count es (q ∷ qs) =
-    length-append (wanted es q) (flat_map (wanted es) qs) ∙ (ap₂ (λ m n. m + n) (resize_count (length q.bits) (lookup es q.name)) (wanted_count es qs) ∙ sym (length-append q.bits (all_bits qs)))
-
-cut_rows : (xs us ys vs : Row) → length xs ≡ length us → xs ++ ys ≡ us ++ vs → (xs ≡ us) × (ys ≡ vs)
-cut_rows [] [] ys vs long e = (refl, e)
-cut_rows [] (u ∷ us) ys vs long e = absurd (omega arith)
-cut_rows (x ∷ xs) [] ys vs long e = absurd (omega arith)
-cut_rows (x ∷ xs) (u ∷ us) ys vs long e =
-    let head : x ≡ u = cc in
-    let tail : xs ++ ys ≡ us ++ vs = cc in
-    let rest = cut_rows xs us ys vs (omega arith) tail in
-    (ap₂ (λ z zs. z ∷ zs) head rest.0, rest.1)
-
-each_port : (es : List (List ℕ × Row)) (f : ℕ → Bool) (ports : List Port) → map f (all_bits ports) ≡ flat_map (wanted es) ports → AllByRecursion (λ q. map f q.bits ≡ wanted es q) ports
-each_port es f [] e = tt
-each_port es f (q ∷ qs) e =
-    let both = cut_rows (map f q.bits) (wanted es q) (map f (all_bits qs)) (flat_map (wanted es) qs) (length-map q.bits f ∙ sym (resize_count (length q.bits) (lookup es q.name))) (sym (map-append f q.bits (all_bits qs)) ∙ e) in
-    (both.0, each_port es f qs both.1)
 
 -- the bits of an input port are input bits
 pub bit_within : (q : Port) (ports : List Port) (w : ℕ) → IsOneOf q ports → is_input q ≡ true → IsTrue (list_any (λ b. b == w) q.bits) → IsTrue (list_any (λ b. b == w) (all_bits (filter is_input ports)))
@@ -194,20 +100,50 @@ turn_of period s k t lt at =
     let back : t - 1 ≡ k * period + s = omega (arith, at, swapped) in
     (ap (λ n. n % period) back ∙ mod-mul-add k period s lt, ap (λ n. n / period) back ∙ div-mul-add k period s lt)
 
--- headers of ports with other names
-random_apart : (name : List ℕ) (n : ℕ) → bytes_eq (codes "agm_r") name ≡ false → AllByRecursion (λ h. bytes_eq h.name name ≡ false) (input_of_width (codes "agm_r") n)
-random_apart name zero apart = tt
-random_apart name (suc n) apart = (apart, tt)
+-- ---- headers with other names
 
-shares_apart : (report : Report) (name : List ℕ) (ports : List Port) → ((i : ℕ) (x : List ℕ) → bytes_eq (share_name i x) name ≡ false) → AllByRecursion (λ p. IsTrue (is_shared report p.name)) ports
-    → AllByRecursion (λ h. bytes_eq h.name name ≡ false) (flat_map (masked_headers report) ports)
-shares_apart report name [] apart shared = tt
-shares_apart report name (p ∷ ps) apart shared =
-    let header : ℕ → Header = λ i. record { name = share_name i p.name; way = p.way; range = p.range } in
-    let mine : masked_headers report p ≡ map header (indices report.order) = cond-true (is_shared report p.name) (map header (indices report.order)) (header_of p ∷ []) shared.0 in
+-- a name that begins with `agm_` is none that does not
+free_other : (name word : List ℕ) → starts_with nat_eq name (codes "agm_") ≡ false → starts_with nat_eq word (codes "agm_") ≡ true → name ≢ word
+free_other name word free begins e = both_ways (starts_with nat_eq name (codes "agm_")) free (ap (λ n. starts_with nat_eq n (codes "agm_")) e ∙ begins)
+
+wide_apart : (name other : List ℕ) (n : ℕ) → bytes_eq other name ≡ false → AllByRecursion (λ h. bytes_eq h.name name ≡ false) (input_of_width other n)
+wide_apart name other zero apart = tt
+wide_apart name other (suc n) apart = (apart, tt)
+
+masked_others : (report : Report) (name : List ℕ) → ((i : ℕ) (x : List ℕ) → bytes_eq (share_name i x) name ≡ false) → starts_with nat_eq name (codes "agm_") ≡ true
+    → (ports : List Port) → AllByRecursion (λ p. starts_with nat_eq p.name (codes "agm_") ≡ false) ports → AllByRecursion (λ h. bytes_eq h.name name ≡ false) (flat_map (masked_headers report) ports)
+masked_others report name shares begins [] free = tt
+masked_others report name shares begins (p ∷ ps) free =
     all_joined (λ h. bytes_eq h.name name ≡ false) (masked_headers report p) (flat_map (masked_headers report) ps)
-    (subst (AllByRecursion (λ h. bytes_eq h.name name ≡ false)) (sym mine) (all_in_range (λ h. bytes_eq h.name name ≡ false) header 0 (report.order + 1) (λ i lt. apart i p.name)))
-    (shares_apart report name ps apart shared.1)
+    (by (is_shared report p.name) (false_from_ne_true (bytes_eq p.name name) (λ same. free_other p.name name free.0 begins ((bytes_eq-Decides p.name name).0 same))))
+    (masked_others report name shares begins ps free.1)
+  where
+    by : (b : Bool) → bytes_eq p.name name ≡ false
+        → AllByRecursion (λ h. bytes_eq h.name name ≡ false) (cond b (map (λ i. record { name = share_name i p.name; way = p.way; range = p.range }) (indices report.order)) (header_of p ∷ []))
+    by true other = all_in_range (λ h. bytes_eq h.name name ≡ false) (λ i. record { name = share_name i p.name; way = p.way; range = p.range }) 0 (report.order + 1) (λ i lt. shares i p.name)
+    by false other = (other, tt)
+
+no_row : (xs : Row) → length xs ≡ 0 → xs ≡ []
+no_row [] e = refl
+no_row (x ∷ xs) e = absurd (omega arith)
+
+-- ---- ports with their values
+
+-- the wires of a port have in this way what its entry wants
+abbrev HasValue : PlainNet → (ℕ → Bool) → Entry → Type 0
+HasValue net f e = (found : HasPort net e.0) × (map f found.port.bits ≡ resize (length found.port.bits) e.1)
+
+each_entry : (net : PlainNet) (f : ℕ → Bool) (ports : List Port) (es : List Entry) → ((k : ℕ) (p : Port) → slice_get ports k ≡ Some p → (n : ℕ) × (slice_get net.ports n ≡ Some p))
+    → map header_of ports ≡ map header_in es → map f (all_bits ports) ≡ wanted ports es → AllByRecursion (HasValue net f) es
+each_entry net f ports [] within heads e = tt
+each_entry net f [] (x ∷ xs) within heads e = absurd (cc)
+each_entry net f (q ∷ qs) (x ∷ xs) within heads e =
+    let head : header_of q ≡ x.0 = cc in
+    let tail : map header_of qs ≡ map header_in xs = cc in
+    let both = cut_first f q qs x xs e in
+    let place = within 0 q refl in
+    let found : HasPort net x.0 = record { number = place.0; port = q; at = place.1; is = head } in
+    ((found, both.0), each_entry net f qs xs (λ k p at. within (suc k) p at) tail both.1)
 
 -- a port that is not the clock's has a place among all
 place_but : (p : Port) (ports : List Port) (c n : ℕ) → slice_get (take c ports ++ drop (c + 1) ports) n ≡ Some p → (m : ℕ) × (slice_get ports m ≡ Some p)
@@ -229,22 +165,69 @@ place_of net n p at = of_clock net.clock at
     of_clock None found = (n, found)
     of_clock (Some c) found = place_but p net.ports c n found
 
-module _ (original : PlainNet) (report : Report) (net : PlainNet) (streams : List Stream) (steps : ℕ) (power : Row)
-    (first : WellFormed original) (well : WellFormed net) (no_loop : HasNoLoop net) (shape : Shape original report net)
-    (shared : AllByRecursion (λ p. IsTrue (is_shared report p.name)) (data_ports original))
-    (stateless : IsStateless report) (stimulus : IsStimulus original report streams steps) (powered : length power ≡ length net.registers) where
-  -- the inputs of cycle t
+module _ (original : PlainNet) (marks : List Mark) (secrets : List Bool) (order : ℕ) (mode : Mode) (gadgets latency : ℕ) (report : Report) (net : PlainNet)
+    (streams : List Stream) (steps : ℕ) (power : Row)
+    (first : WellFormed original) (free : AllByRecursion (λ p. starts_with nat_eq p.name (codes "agm_") ≡ false) original.ports)
+    (well : WellFormed net) (no_loop : HasNoLoop net) (shape : Shape original report net)
+    (reported : ReportOf original marks order mode Pipe gadgets latency report) (tells : TellsSecrets original marks secrets)
+    (stimulus : IsStimulus original report streams steps) (powered : length power ≡ length net.registers) where
+  -- the initial state and the inputs of cycle t
+  abbrev initial : ℕ → Row
+  initial t = (stream_at streams t).initial
+
   abbrev step_row : ℕ → Row
   step_row t = row_at (stream_at streams ((t - 1) % report.period)).steps ((t - 1) / report.period)
 
   abbrev step_bits : ℕ → ℕ → Bool
   step_bits t = given (input_bits original) (step_row t)
 
-  abbrev table_entries : ℕ → List (List ℕ × Row)
-  table_entries t = entries (nat_lt t report.period) (step_bits t) original.ports
+  -- what the ports are given in cycle t
+  abbrev public_row : ℕ → Row
+  public_row t = reverse (chosen false secrets (initial t))
+
+  abbrev secret_row : ℕ → ℕ → Row
+  secret_row t i = first_alone report.secret_registers i (reverse (chosen true secrets (initial t)))
+
+  abbrev Randoms : List Entry
+  Randoms = wide_entries (codes "agm_r") report.random []
+
+  abbrev publics_in : ℕ → List Entry
+  publics_in t = wide_entries (codes "agm_q_p") report.public_registers (public_row t)
+
+  abbrev secret_in : ℕ → ℕ → List Entry
+  secret_in t i = wide_entries (state_name i) report.secret_registers (secret_row t i)
+
+  abbrev secrets_in : ℕ → List Entry
+  secrets_in t = flat_map (secret_in t) (indices report.order)
+
+  abbrev own_in : ℕ → List Entry
+  own_in t = flat_map (masked_entries report (step_bits t)) (data_ports original)
+
+  abbrev entries : ℕ → List Entry
+  entries t = (one_input (codes "agm_clk"), []) ∷ ((one_input (codes "agm_load"), nat_lt t report.period ∷ []) ∷ (Randoms ++ (publics_in t ++ (secrets_in t ++ own_in t))))
+
+  own_headers : (t : ℕ) → map header_in (own_in t) ≡ flat_map (masked_headers report) (data_ports original)
+  own_headers t =
+      map_flat_map header_in (masked_entries report (step_bits t)) (data_ports original)
+      ∙ flat_map_same (λ p. map header_in (masked_entries report (step_bits t) p)) (masked_headers report) (data_ports original) (masked_entry_headers report (step_bits t))
+
+  state_headers : (t : ℕ) → map header_in (secrets_in t) ≡ flat_map (λ i. input_of_width (state_name i) report.secret_registers) (indices report.order)
+  state_headers t =
+      map_flat_map header_in (secret_in t) (indices report.order)
+      ∙ flat_map_same (λ i. map header_in (secret_in t i)) (λ i. input_of_width (state_name i) report.secret_registers) (indices report.order)
+      (λ i. wide_headers (state_name i) report.secret_registers (secret_row t i))
+
+  heads : (t : ℕ) → map header_in (entries t) ≡ headers_of original report
+  heads t =
+      ap (λ hs. one_input (codes "agm_clk") ∷ (one_input (codes "agm_load") ∷ hs))
+      (map-append header_in Randoms (publics_in t ++ (secrets_in t ++ own_in t))
+      ∙ ap₂ (λ xs ys. xs ++ ys) (wide_headers (codes "agm_r") report.random [])
+      (map-append header_in (publics_in t) (secrets_in t ++ own_in t)
+      ∙ ap₂ (λ xs ys. xs ++ ys) (wide_headers (codes "agm_q_p") report.public_registers (public_row t))
+      (map-append header_in (secrets_in t) (own_in t) ∙ ap₂ (λ xs ys. xs ++ ys) (state_headers t) (own_headers t))))
 
   abbrev cycle : ℕ → ℕ → Bool
-  cycle t = put net.ports (table_entries t)
+  cycle t = given (all_bits net.ports) (wanted net.ports (entries t))
 
   abbrev cycles : ℕ
   cycles = 1 + (report.period * steps + report.period) + report.latency
@@ -270,11 +253,6 @@ module _ (original : PlainNet) (report : Report) (net : PlainNet) (streams : Lis
       let row : row_at tape t ≡ map (cycle t) (input_bits net) = get_or-map-range_with_len (λ k. map (cycle k) (input_bits net)) 0 cycles t t [] (omega (arith, lt, as_many)) (zero-add t) in
       agree_at (bit_at table t) (cycle t) (input_bits net) (trace.inputs_given t lt ∙ row) w found
 
-  put_port : (t n : ℕ) (q : Port) → slice_get net.ports n ≡ Some q → map (cycle t) q.bits ≡ wanted (table_entries t) q
-  put_port t n q at =
-      all_of_one (λ r. map (cycle t) r.bits ≡ wanted (table_entries t) r) net.ports n q
-      (each_port (table_entries t) (cycle t) net.ports (given_row (all_bits net.ports) (flat_map (wanted (table_entries t)) net.ports) (wanted_count (table_entries t) net.ports) well.ports_right.one_port)) at
-
   -- the clock's port has its name
   clock_first : (q : Port) → slice_get net.ports 0 ≡ Some q → q.name ≡ codes "agm_clk"
   clock_first q at = ap (λ (h : Header). h.name) (of_first net.ports shape.headers at)
@@ -283,9 +261,13 @@ module _ (original : PlainNet) (report : Report) (net : PlainNet) (streams : Lis
       of_first [] e is = absurd (cc)
       of_first (p ∷ ps) e is = let same : p ≡ q = cc in let head : header_of p ≡ one_input (codes "agm_clk") = cc in ap header_of (sym same) ∙ head
 
-  -- an input port has in a cycle what was wanted
-  port_is : (t : ℕ) (h : Header) → t < length table → h.way ≡ Input → h.name ≢ codes "agm_clk" → (found : HasPort net h) → port_value net h.name (bit_at table t) ≡ resize (width h.range) (lookup (table_entries t) h.name)
-  port_is t h lt input other found =
+  -- an input port has in a cycle what its entry wants
+  abbrev Told : ℕ → Entry → Type 0
+  Told t e = e.0.way ≡ Input → e.0.name ≢ codes "agm_clk" → port_value net e.0.name (bit_at table t) ≡ resize (width e.0.range) e.1
+
+  port_is : (t : ℕ) (h : Header) (row : Row) → t < length table → (found : HasPort net h) → map (cycle t) found.port.bits ≡ resize (length found.port.bits) row
+      → h.way ≡ Input → h.name ≢ codes "agm_clk" → port_value net h.name (bit_at table t) ≡ resize (width h.range) row
+  port_is t h row lt found put input other =
       let q = found.port in
       let name : q.name ≡ h.name = ap (λ (x : Header). x.name) found.is in
       let way : is_input q ≡ true = ap (λ (x : Header). is_input (record { name = x.name; way = x.way; range = x.range; bits = [] })) found.is ∙ ap (λ w. is_input (record { name = h.name; way = w; range = h.range; bits = [] })) input in
@@ -294,31 +276,64 @@ module _ (original : PlainNet) (report : Report) (net : PlainNet) (streams : Lis
       ap (λ x. port_value net x (bit_at table t)) (sym name)
       ∙ (port_bits net well found.number q found.at (bit_at table t)
       ∙ (same_on (bit_at table t) (cycle t) q.bits (λ w found_at. input_is t w lt (bit_within q (data_ports net) w own way found_at))
-      ∙ (put_port t found.number q found.at
-      ∙ ap₂ (λ m x. resize m (lookup (table_entries t) x)) (bit_count net well found.number q found.at ∙ ap width range) name)))
+      ∙ (put ∙ ap (λ m. resize m row) (bit_count net well found.number q found.at ∙ ap width range))))
+
+  told : (t : ℕ) → t < length table → AllByRecursion (Told t) (entries t)
+  told t lt =
+      all_from (HasValue net (cycle t)) (Told t) (λ e has. port_is t e.0 e.1 lt has.0 has.1) (entries t)
+      (each_entry net (cycle t) net.ports (entries t) (λ k p at. (k, at)) (shape.headers ∙ sym (heads t))
+      (given_row (all_bits net.ports) (wanted net.ports (entries t)) (wanted_count net.ports (entries t)) well.ports_right.one_port))
+
+  abbrev Rest : ℕ → Type 0
+  Rest t = AllByRecursion (Told t) (Randoms ++ (publics_in t ++ (secrets_in t ++ own_in t)))
+
+  told_publics : (t : ℕ) → Rest t → AllByRecursion (Told t) (publics_in t)
+  told_publics t rest = all_front (Told t) (publics_in t) (secrets_in t ++ own_in t) (all_back (Told t) Randoms (publics_in t ++ (secrets_in t ++ own_in t)) rest)
+
+  told_behind : (t : ℕ) → Rest t → AllByRecursion (Told t) (secrets_in t ++ own_in t)
+  told_behind t rest = all_back (Told t) (publics_in t) (secrets_in t ++ own_in t) (all_back (Told t) Randoms (publics_in t ++ (secrets_in t ++ own_in t)) rest)
 
   load_is : (t : ℕ) → t < length table → port_value net (codes "agm_load") (bit_at table t) ≡ nat_lt t report.period ∷ []
-  load_is t lt = port_is t (one_input (codes "agm_load")) lt refl (λ e. (let r : ◌≡◌ {A = ℕ} 108 99 = cc in absurd (omega (arith, r)))) (load_port original report net shape)
+  load_is t lt = (told t lt).1.0 refl (λ e. (let r : ◌≡◌ {A = ℕ} 108 99 = cc in absurd (omega (arith, r))))
 
-  -- the ports of the shares of an input
-  share_row : (t n : ℕ) (p : Port) → t < length table → slice_get (data_ports original) n ≡ Some p → is_input p ≡ true → (i : ℕ) → i ≤ report.order
-      → port_value net (share_name i p.name) (bit_at table t) ≡ resize (width p.range) (lookup (map (entry (step_bits t)) original.ports) (share_name i p.name))
-  share_row t n p lt at input i le =
-      port_is t (record { name = share_name i p.name; way = p.way; range = p.range }) lt (way_is p.way input) (λ e. (let r : ◌≡◌ {A = ℕ} 115 99 = cc in absurd (omega (arith, r))))
-      (share_port original report net shape p i (one_at p (data_ports original) n at) (all_of_one (λ q. IsTrue (is_shared report q.name)) (data_ports original) n p shared at) le)
+  -- ---- inputs
 
-  -- recombine to its bits
+  data_free : AllByRecursion (λ p. starts_with nat_eq p.name (codes "agm_") ≡ false) (data_ports original)
+  data_free =
+      all_places (λ p. starts_with nat_eq p.name (codes "agm_") ≡ false) (data_ports original)
+      (λ n p at. (let place = place_of original n p at in all_of_one (λ q. starts_with nat_eq q.name (codes "agm_") ≡ false) original.ports place.0 p free place.1))
+
+  told_port : (t n : ℕ) (p : Port) → t < length table → slice_get (data_ports original) n ≡ Some p → AllByRecursion (Told t) (masked_entries report (step_bits t) p)
+  told_port t n p lt at =
+      all_of_one (λ q. AllByRecursion (Told t) (masked_entries report (step_bits t) q)) (data_ports original) n p
+      (one_of_flat (Told t) (masked_entries report (step_bits t)) (data_ports original) (all_back (Told t) (secrets_in t) (own_in t) (told_behind t (told t lt).1.1))) at
+
+  abbrev shares_of : ℕ → Port → List Entry
+  shares_of t p = map (share_entry (step_bits t) p) (indices report.order)
+
   value_is : (t n : ℕ) (p : Port) → t < length table → slice_get (data_ports original) n ≡ Some p → is_input p ≡ true → masked_value net report p.name (bit_at table t) ≡ map (step_bits t) p.bits
   value_is t n p lt at input =
       let place = place_of original n p at in
       let row : ℕ → Row = λ i. port_value net (share_name i p.name) (bit_at table t) in
-      let count : length (map (step_bits t) p.bits) ≡ width p.range = length-map p.bits (step_bits t) ∙ bit_count original first place.0 p place.1 in
-      let few = stateless.few in
-      cond-true (is_shared report p.name) (recombined_rows report.order row) (port_value net p.name (bit_at table t)) (all_of_one (λ q. IsTrue (is_shared report q.name)) (data_ports original) n p shared at)
-      ∙ first_alone report.order (width p.range) row (map (step_bits t) p.bits) count
-      (share_row t n p lt at input 0 (omega arith)
-      ∙ (ap (resize (width p.range)) (own_entry (step_bits t) original.ports place.0 p first.ports_right.ports_differ place.1) ∙ resize_same (width p.range) (map (step_bits t) p.bits) count))
-      (λ i le. share_row t n p lt at input (suc i) le ∙ ap (resize (width p.range)) (no_entry (step_bits t) original.ports i p.name (omega (arith, le, few))))
+      let bits = map (step_bits t) p.bits in
+      let alone : List Entry = (header_of p, bits) ∷ [] in
+      let count : length bits ≡ length p.bits = length-map p.bits (step_bits t) in
+      let wide : length p.bits ≡ width p.range = bit_count original first place.0 p place.1 in
+      let fits : (xs : Row) → length xs ≡ length p.bits → resize (width p.range) xs ≡ xs = λ xs long. ap (λ m. resize m xs) (sym wide) ∙ resize_same (length p.bits) xs long in
+      let here = told_port t n p lt at in
+      elim (cases_Bool (is_shared report p.name)) [
+        | inl shared ↦ (
+            let each : AllByRecursion (Told t) (shares_of t p) = subst (AllByRecursion (Told t)) (cond-true (is_shared report p.name) (shares_of t p) alone shared) here in
+            cond-true (is_shared report p.name) (recombined_rows report.order row) (port_value net p.name (bit_at table t)) shared
+            ∙ first_recombines report.order (length p.bits) row bits count
+            (λ i le. all_below (Told t) (share_entry (step_bits t) p) (report.order + 1) each i (omega (arith, le)) (way_is p.way input) (λ e. (let r : ◌≡◌ {A = ℕ} 115 99 = cc in absurd (omega (arith, r))))
+            ∙ fits (first_alone (length p.bits) i bits) (first_count (length p.bits) i bits count)))
+        | inr public ↦ (
+            let each : AllByRecursion (Told t) alone = subst (AllByRecursion (Told t)) (cond-false (is_shared report p.name) (shares_of t p) alone public) here in
+            let is_free = all_of_one (λ q. starts_with nat_eq q.name (codes "agm_") ≡ false) (data_ports original) n p data_free at in
+            cond-false (is_shared report p.name) (recombined_rows report.order row) (port_value net p.name (bit_at table t)) public
+            ∙ (each.0 (way_is p.way input) (free_other p.name (codes "agm_clk") is_free refl) ∙ fits bits count))
+      ]
 
   inputs_are : (t : ℕ) → t < length table → length (step_row t) ≡ length (input_bits original) → input_values original report net (bit_at table t) ≡ step_row t
   inputs_are t lt count =
@@ -326,48 +341,89 @@ module _ (original : PlainNet) (report : Report) (net : PlainNet) (streams : Lis
       ∙ (sym (map_flat_map (step_bits t) (λ p. p.bits) (filter is_input (data_ports original)))
       ∙ given_row (input_bits original) (step_row t) count (input_once original first))
 
+  -- ---- initial values
+
   -- no port has another name
-  others : (name : List ℕ) → bytes_eq (codes "agm_clk") name ≡ false → bytes_eq (codes "agm_load") name ≡ false → bytes_eq (codes "agm_r") name ≡ false
-      → ((i : ℕ) (x : List ℕ) → bytes_eq (share_name i x) name ≡ false) → (bit : ℕ → Bool) → port_value net name bit ≡ []
-  others name clock load random apart bit =
+  no_header : (name : List ℕ) → bytes_eq (codes "agm_clk") name ≡ false → bytes_eq (codes "agm_load") name ≡ false → bytes_eq (codes "agm_r") name ≡ false
+      → AllByRecursion (λ h. bytes_eq h.name name ≡ false) (input_of_width (codes "agm_q_p") report.public_registers)
+      → AllByRecursion (λ h. bytes_eq h.name name ≡ false) (flat_map (λ k. input_of_width (state_name k) report.secret_registers) (indices report.order))
+      → ((i : ℕ) (x : List ℕ) → bytes_eq (share_name i x) name ≡ false) → starts_with nat_eq name (codes "agm_") ≡ true
+      → AllByRecursion (λ h. bytes_eq h.name name ≡ false) (headers_of original report)
+  no_header name clock load random public secret shares begins =
       let P : Header → Type 0 = λ h. bytes_eq h.name name ≡ false in
       let publics = input_of_width (codes "agm_q_p") report.public_registers in
       let states = flat_map (λ k. input_of_width (state_name k) report.secret_registers) (indices report.order) in
-      let own = flat_map (masked_headers report) (data_ports original) in
-      let no_publics : publics ≡ [] = ap (input_of_width (codes "agm_q_p")) stateless.no_public in
-      let no_states : states ≡ [] = flat_map_nothing (λ k. input_of_width (state_name k) report.secret_registers) (indices report.order) (λ k. ap (input_of_width (state_name k)) stateless.no_secret) in
-      none_named bit name net.ports _ shape.headers (
+      let own = flat_map (masked_headers report) (data_ports original) in (
         clock,
         (
           load,
-          all_joined P (input_of_width (codes "agm_r") report.random) (publics ++ (states ++ own)) (random_apart name report.random random)
-              (subst (AllByRecursion P) (sym (ap₂ (λ xs ys. xs ++ (ys ++ own)) no_publics no_states)) (shares_apart report name (data_ports original) apart shared)),
+          all_joined P (input_of_width (codes "agm_r") report.random) (publics ++ (states ++ own)) (wide_apart name (codes "agm_r") report.random random)
+              (all_joined P publics (states ++ own) public (all_joined P states own secret (masked_others report name shares begins (data_ports original) data_free))),
         ),
       )
 
-  abbrev Turn : ℕ → Type 0
-  Turn s = s < report.period
+  -- a port of n bits, or none
+  wide_value : (t : ℕ) (name : List ℕ) (n : ℕ) (row : Row) → AllByRecursion (Told t) (wide_entries name n row) → (n ≡ 0 → AllByRecursion (λ h. bytes_eq h.name name ≡ false) (headers_of original report))
+      → name ≢ codes "agm_clk" → length row ≡ n → port_value net name (bit_at table t) ≡ row
+  wide_value t name zero row known absent other long = none_named (bit_at table t) name net.ports (headers_of original report) shape.headers (absent refl) ∙ sym (no_row row long)
+  wide_value t name (suc n) row known absent other long = known.0 refl other ∙ (ap (λ m. resize m row) (wide_count n) ∙ resize_same (suc n) row long)
 
-  turn : (s : ℕ) → s < length streams → Turn s
-  turn s lt = let same = stimulus.as_many ∙ stateless.streams_are in omega (arith, same, lt)
+  counts : (s : ℕ) → s < length streams → length (initial s) ≡ length secrets
+  counts s lt = stimulus.states s lt ∙ sym tells.one_each
 
-  pub drives : Drives original [] report net streams steps table
+  public_is : (s : ℕ) → s < length streams → s < length table → port_value net (codes "agm_q_p") (bit_at table s) ≡ public_row s
+  public_is s lt less =
+      wide_value s (codes "agm_q_p") report.public_registers (public_row s) (told_publics s (told s less).1.1)
+      (λ none. no_header (codes "agm_q_p") refl refl refl (subst (λ n. AllByRecursion (λ h. bytes_eq h.name (codes "agm_q_p") ≡ false) (input_of_width (codes "agm_q_p") n)) (sym none) tt)
+      (all_flat (λ h. bytes_eq h.name (codes "agm_q_p") ≡ false) (λ k. input_of_width (state_name k) report.secret_registers) (indices report.order)
+      (always (λ k. AllByRecursion (λ h. bytes_eq h.name (codes "agm_q_p") ≡ false) (input_of_width (state_name k) report.secret_registers)) (λ k. wide_apart (codes "agm_q_p") (state_name k) report.secret_registers refl) (indices report.order)))
+      (λ i x. refl) refl)
+      (λ e. (let r : ◌≡◌ {A = ℕ} 113 99 = cc in absurd (omega (arith, r))))
+      (length-reverse (chosen false secrets (initial s)) ∙ (chosen_public secrets (initial s) (counts s lt) ∙ sym (reported.registers_are secrets tells).1))
+
+  secret_count : (s : ℕ) → s < length streams → length (reverse (chosen true secrets (initial s))) ≡ report.secret_registers
+  secret_count s lt = length-reverse (chosen true secrets (initial s)) ∙ (chosen_secret secrets (initial s) (counts s lt) ∙ sym (reported.registers_are secrets tells).0)
+
+  secret_is : (s i : ℕ) → s < length streams → s < length table → i ≤ report.order → port_value net (state_name i) (bit_at table s) ≡ secret_row s i
+  secret_is s i lt less le =
+      let here : AllByRecursion (Told s) (secret_in s i) =
+      one_number (λ k. AllByRecursion (Told s) (secret_in s k)) i 0 (report.order + 1) (omega arith) (omega (arith, le))
+      (one_of_flat (Told s) (secret_in s) (indices report.order) (all_front (Told s) (secrets_in s) (own_in s) (told_behind s (told s less).1.1))) in
+      wide_value s (state_name i) report.secret_registers (secret_row s i) here
+      (λ none. no_header (state_name i) refl refl refl (wide_apart (state_name i) (codes "agm_q_p") report.public_registers refl)
+      (subst (AllByRecursion (λ h. bytes_eq h.name (state_name i) ≡ false)) (sym (flat_map_nothing (λ k. input_of_width (state_name k) report.secret_registers) (indices report.order) (λ k. ap (input_of_width (state_name k)) none))) tt)
+      (λ j x. refl) refl)
+      (λ e. (let r : ◌≡◌ {A = ℕ} 113 99 = cc in absurd (omega (arith, r))))
+      (first_count report.secret_registers i (reverse (chosen true secrets (initial s))) (secret_count s lt))
+
+  -- ---- all
+
+  turn : (s : ℕ) → s < length streams → s < report.period
+  turn s lt = let same = stimulus.as_many ∙ (reported.streams_are ∙ sym reported.period_is) in omega (arith, same, lt)
+
+  early : (s : ℕ) → s < length streams → s < length table
+  early s lt = let low = turn s lt in omega (arith, low, as_many)
+
+  pub drives : Drives original secrets report net streams steps table
   drives = record {
     as_many = stimulus.as_many;
     as_long = stimulus.as_long;
-    load = λ t lt. load_is t lt ∙ ap (λ b. nat_lt t (load_cycles b report.period) ∷ []) (sym stateless.balance_is);
-    public_state = λ s lt. ap reverse (others (codes "agm_q_p") refl refl refl (λ i x. refl) (bit_at table s));
-    secret_state = λ s lt. ap reverse (rows_recombine report.order (λ w i. false) [] (λ i. port_value net (state_name i) (bit_at table s)) (λ i below. others (state_name i) refl refl refl (λ j x. refl) (bit_at table s)));
+    load = λ t lt. load_is t lt ∙ ap (λ b. nat_lt t (load_cycles b report.period) ∷ []) (sym reported.balance_is);
+    public_state = λ s lt. ap reverse (public_is s lt (early s lt)) ∙ reverse-reverse (chosen false secrets (initial s));
+    secret_state = λ s lt.
+        let row = reverse (chosen true secrets (initial s)) in
+        ap reverse (first_recombines report.order report.secret_registers (λ i. port_value net (state_name i) (bit_at table s)) row (secret_count s lt) (λ i le. secret_is s i lt (early s lt) le))
+        ∙ reverse-reverse (chosen true secrets (initial s));
     inputs = λ s k t lt less is.
-        let at : t ≡ 1 + s + report.period * k = subst (λ b. IsInputCycle b report.period s k t) stateless.balance_is is in
+        let at : t ≡ 1 + s + report.period * k = subst (λ b. IsInputCycle b report.period s k t) reported.balance_is is in
         let found = turn_of report.period s k t (turn s lt) at in
         let row : step_row t ≡ row_at (stream_at streams s).steps k = ap₂ (λ a b. row_at (stream_at streams a).steps b) found.0 found.1 in
         let fits = step_fits report.period k steps s report.latency (turn s lt) less in
         inputs_are t (omega (arith, at, fits, as_many)) (ap (λ (xs : Row). length xs) row ∙ stimulus.as_wide s k lt less) ∙ row;
     is_read = λ s k lt less.
         let fits = step_fits report.period k steps s report.latency (turn s lt) less in
-        subst (λ b. reading_cycle b report.period report.latency s k < length table) (sym stateless.balance_is) (omega (arith, fits, as_many));
+        subst (λ b. reading_cycle b report.period report.latency s k < length table) (sym reported.balance_is) (omega (arith, fits, as_many));
   }
 
-  pub is_driven : (tape : List Row) × (table : List Row) × IsTrace net power tape table × Drives original [] report net streams steps table
+  pub is_driven : (tape : List Row) × (table : List Row) × IsTrace net power tape table × Drives original secrets report net streams steps table
   is_driven = (tape, table, trace, drives)

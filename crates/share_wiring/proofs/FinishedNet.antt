@@ -88,7 +88,7 @@ fits net built =
     (listed (λ r. nat_lt r.q N && (reads_below N r.next && nat_lt r.clock N)) (stored_below net.wires N) (all_stored (λ r. IsTrue (nat_lt r.q N && (reads_below N r.next && nat_lt r.clock N))) net.wires N (λ w lt. stored_fits w N (source_at net.wires w) lt (built.ordered w lt)))))
 
 -- whether a wire of this source has an equation, as a number
-abbrev is_line : Source → ℕ
+abbrev pub is_line : Source → ℕ
 is_line (Equation gate) = 1
 is_line _ = 0
 
@@ -110,7 +110,7 @@ lines_none wires (suc n) w le =
     sum_by-append (λ (l : Line). cond (l.0 == w) 1 0) (lines_below wires n) (line_at n (source_at wires n))
     ∙ ap₂ (λ x y. x + y) (lines_none wires n w (omega arith)) (line_elsewhere w n (source_at wires n) (λ e. (let same = e in omega arith)))
 
-lines_one : (wires : List Wire) (n w : ℕ) → w < n → count_by (λ l. l.0 == w) (lines_below wires n) ≡ is_line (source_at wires w)
+pub lines_one : (wires : List Wire) (n w : ℕ) → w < n → count_by (λ l. l.0 == w) (lines_below wires n) ≡ is_line (source_at wires w)
 lines_one wires zero w lt = absurd (omega arith)
 lines_one wires (suc n) w lt =
     let split = sum_by-append (λ (l : Line). cond (l.0 == w) 1 0) (lines_below wires n) (line_at n (source_at wires n)) in
@@ -140,7 +140,7 @@ stored_none wires (suc n) w le =
     sum_by-append (λ (r : Stored). cond (r.q == w) 1 0) (stored_below wires n) (stored_at n (source_at wires n))
     ∙ ap₂ (λ x y. x + y) (stored_none wires n w (omega arith)) (stored_elsewhere w n (source_at wires n) (λ e. (let same = e in omega arith)))
 
-stored_one : (wires : List Wire) (n w : ℕ) → w < n → count_by (λ r. r.q == w) (stored_below wires n) ≡ is_stored (source_at wires w)
+pub stored_one : (wires : List Wire) (n w : ℕ) → w < n → count_by (λ r. r.q == w) (stored_below wires n) ≡ is_stored (source_at wires w)
 stored_one wires zero w lt = absurd (omega arith)
 stored_one wires (suc n) w lt =
     let split = sum_by-append (λ (r : Stored). cond (r.q == w) 1 0) (stored_below wires n) (stored_at n (source_at wires n)) in
@@ -167,7 +167,7 @@ driven net built w lt =
     let kind = one_kind (source_at net.wires w) in
     omega (arith, inputs, lines, registers, kind)
 
-first_is_clock : (ports : List Port) → take 1 ports ≡ clock_port ∷ [] → slice_get ports 0 ≡ Some clock_port
+pub first_is_clock : (ports : List Port) → take 1 ports ≡ clock_port ∷ [] → slice_get ports 0 ≡ Some clock_port
 first_is_clock [] e = absurd (cc)
 first_is_clock (p ∷ ps) e = let same : p ≡ clock_port = cc in ap (λ x. Some x) same
 

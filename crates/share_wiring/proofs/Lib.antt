@@ -6,6 +6,7 @@ pub mod Names
 pub mod Ports
 pub mod ShapePorts
 pub mod Given
+pub mod DrivenRows
 pub mod Driven
 pub mod Distinct
 pub mod Inverted
@@ -29,3 +30,10 @@ pub mod PortWires
 pub mod Cells
 pub mod SmallNet
 pub mod RenumberedSame
+pub mod Ruling
+pub mod StepRules
+pub mod PortRules
+pub mod CloseRules
+pub mod NetDrivers
+pub mod RandomBits
+pub mod Networked

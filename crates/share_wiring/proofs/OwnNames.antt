@@ -34,6 +34,9 @@ no_gadget : (one : Bool) (i k g : ℕ) (text : List ℕ) → by_test one i k ≢
 no_gadget true i k g text e = let r : ◌≡◌ {A = ℕ} 112 103 = cc in absurd (omega (arith, r))
 no_gadget false i k g text e = let r : ◌≡◌ {A = ℕ} 100 103 = cc in absurd (omega (arith, r))
 
+pub own_no_gadget : (n i k g : ℕ) (text : List ℕ) → own_name n i k ≢ gadget_name g text
+own_no_gadget n i k g text = no_gadget (n == 1) i k g text
+
 -- an own name is no gadget's
 pub own_begun : (n i k gadgets : ℕ) → IsBegun gadgets (own_name n i k)
 own_begun n i k gadgets g text small e = absurd (no_gadget (n == 1) i k g text e)

@@ -56,7 +56,7 @@ module _ (net : Wiring) (n : ℕ) (source : ℕ → Source) where
   abbrev pub made : List Wire
   made = own_wires n (length net.wires) source n
 
-  made_names : names made ≡ upto n (λ i. own_name n i (length net.wires + i))
+  pub made_names : names made ≡ upto n (λ i. own_name n i (length net.wires + i))
   made_names = map-upto (λ (x : Wire). x.name) n (λ i. record { name = own_name n i (length net.wires + i); source = source i })
 
   pub made_count : length made ≡ n

@@ -38,7 +38,7 @@ select_apart name k m hk hm e =
     let rest : decimal k ++ 93 ∷ [] ≡ decimal m ++ 93 ∷ [] = cc in
     (cut_number_above 93 k m [] [] (omega arith) hk hm rest).0
 
-number_small : (msb lsb i : ℕ) → msb ≤ 65535 → lsb ≤ 65535 → i ≤ abs_diff msb lsb → number_at msb lsb i < 2 ^ 64
+number_small : (msb lsb i : ℕ) → msb ≤ 65535 → lsb ≤ 65535 → i ≤ abs_diff msb lsb → number_at msb lsb i < 2 ^ 32
 number_small msb lsb i hm hl le =
     elim (cases_Bool (nat_le lsb msb)) [ inl down ↦ rw down (omega arith) | inr up ↦ (let more = leb-false lsb msb up in rw up (omega arith)) ]
 
@@ -63,7 +63,9 @@ bits_distinct name (Some r) small =
     let li : i ≤ abs_diff r.msb r.lsb = omega (arith, many) in
     let lj : j ≤ abs_diff r.msb r.lsb = omega (arith, many) in
     let shown = sym (name-at name r i li) ∙ (e ∙ name-at name r j lj) in
-    let numbers = select_apart name (number_at r.msb r.lsb i) (number_at r.msb r.lsb j) (number_small r.msb r.lsb i hm hl li) (number_small r.msb r.lsb j hm hl lj) shown in
+    let si = number_small r.msb r.lsb i hm hl li in
+    let sj = number_small r.msb r.lsb j hm hl lj in
+    let numbers = select_apart name (number_at r.msb r.lsb i) (number_at r.msb r.lsb j) (omega (arith, si)) (omega (arith, sj)) shown in
     number_apart r.msb r.lsb i j li lj numbers))
 
 -- a name that does not begin as those of inner wires or of instances do
@@ -89,7 +91,7 @@ outer name (inr (inr (inr (inl is)))) = with_byte 113 (codes "_p") name (omega a
 outer name (inr (inr (inr (inr shared)))) = outer_share shared.0 name shared.1
 
 -- so is a bit's
-user_select : (name tail : List ℕ) → IsUserName name → IsUserName (name ++ 91 ∷ tail)
+pub user_select : (name tail : List ℕ) → IsUserName name → IsUserName (name ++ 91 ∷ tail)
 user_select [] tail h rest e = let r : ◌≡◌ {A = ℕ} 91 97 = cc in absurd (omega (arith, r))
 user_select (a ∷ []) tail h rest e = let r : ◌≡◌ {A = ℕ} 91 103 = cc in absurd (omega (arith, r))
 user_select (a ∷ b ∷ []) tail h rest e = let r : ◌≡◌ {A = ℕ} 91 109 = cc in absurd (omega (arith, r))
@@ -127,9 +129,9 @@ select_writable name k small h =
     )
 
 -- what holds of a port's name and of selects on it holds of its bits' names
-pub each_bit : (P : List ℕ → Type 0) (name : List ℕ) (range : Option Range) → IsSmallRange range → P name → ((k : ℕ) → k < 2 ^ 64 → P (select_name name k)) → AllByRecursion P (bit_names name range)
-each_bit P name None small h g = (h, tt)
-each_bit P name (Some r) small h g =
+pub each_select : (P : List ℕ → Type 0) (name : List ℕ) (range : Option Range) → IsSmallRange range → P name → ((k : ℕ) → k < 2 ^ 32 → P (select_name name k)) → AllByRecursion P (bit_names name range)
+each_select P name None small h g = (h, tt)
+each_select P name (Some r) small h g =
     let ns = bit_names name (Some r) in
     let many = length-names name r in
     let hm = small.0 in
@@ -137,6 +139,9 @@ each_bit P name (Some r) small h g =
     subst (AllByRecursion P) (upto_items ns)
     (all_upto P (length ns) (λ i. get_or ns i [])
     (λ i lt. let le : i ≤ abs_diff r.msb r.lsb = omega (arith, many) in subst P (sym (name-at name r i le)) (g (number_at r.msb r.lsb i) (number_small r.msb r.lsb i hm hl le))))
+
+pub each_bit : (P : List ℕ → Type 0) (name : List ℕ) (range : Option Range) → IsSmallRange range → P name → ((k : ℕ) → k < 2 ^ 64 → P (select_name name k)) → AllByRecursion P (bit_names name range)
+each_bit P name range small h g = each_select P name range small h (λ k lt. g k (omega (arith, lt)))
 
 module _ (name : List ℕ) (range : Option Range) (small : IsSmallRange range) (port : IsPortName name) where
   pub bits_free : (n : ℕ) → AllByRecursion (LeavesFree n) (bit_names name range)

@@ -79,7 +79,7 @@ extends_same old new e g =
     }
 
 -- the later wires are the earlier ones and more
-grown : (old new : List Wire) → take (length old) new ≡ old → new ≡ old ++ drop (length old) new
+pub grown : (old new : List Wire) → take (length old) new ≡ old → new ≡ old ++ drop (length old) new
 grown old new e = sym (take-append-drop (length old) new) ∙ ap (λ s. s ++ drop (length old) new) e
 
 -- what stays, stays

@@ -112,10 +112,10 @@ wire_is_free ports name made (inr bit) = outer_is_free name (all_bits_outer port
 -- ---- a wire with a port's name is a bit of a port
 
 -- a bit of a name
-record HasBit (wires : List (List ℕ)) (bits : List ℕ) (name : List ℕ) : Type 0 where
-  bit : ℕ
-  is_bit : IsTrue (list_any (λ b. b == bit) bits)
-  named : slice_get wires bit ≡ Some name
+pub record HasBit (wires : List (List ℕ)) (bits : List ℕ) (name : List ℕ) : Type 0 where
+  pub bit : ℕ
+  pub is_bit : IsTrue (list_any (λ b. b == bit) bits)
+  pub named : slice_get wires bit ≡ Some name
 
 bit_among : (wires : List (List ℕ)) (bits : List ℕ) (ns : List (List ℕ)) (name : List ℕ) → map (slice_get wires) bits ≡ map (λ n. Some n) ns → IsAmong ns name → HasBit wires bits name
 bit_among wires bits [] name e among = absurd among
@@ -128,7 +128,7 @@ bit_among wires (b ∷ bs) (n ∷ ns) name e (inr among) =
     let found = bit_among wires bs ns name rest among in
     record { bit = found.bit; is_bit = or_right (b == found.bit) (list_any (λ c. c == found.bit) bs) found.is_bit; named = found.named }
 
-bit_of_port : (wires : List (List ℕ)) (ports : List Port) (name : List ℕ) → AllByRecursion (HasItsBits wires) ports → IsAmong (bits_names ports) name → HasBit wires (flat_map (λ p. p.bits) ports) name
+pub bit_of_port : (wires : List (List ℕ)) (ports : List Port) (name : List ℕ) → AllByRecursion (HasItsBits wires) ports → IsAmong (bits_names ports) name → HasBit wires (flat_map (λ p. p.bits) ports) name
 bit_of_port wires [] name h among = absurd among
 bit_of_port wires (p ∷ ps) name h among =
     let all = flat_map (λ q. q.bits) ps in
@@ -143,7 +143,7 @@ bit_of_port wires (p ∷ ps) name h among =
     ]
 
 -- an item that two numbers give
-distinct_at : (xs : List (List ℕ)) (v w : ℕ) (x : List ℕ) → AreDistinct xs → slice_get xs v ≡ Some x → slice_get xs w ≡ Some x → v ≡ w
+pub distinct_at : (xs : List (List ℕ)) (v w : ℕ) (x : List ℕ) → AreDistinct xs → slice_get xs v ≡ Some x → slice_get xs w ≡ Some x → v ≡ w
 distinct_at [] v w x d p q = absurd (cc)
 distinct_at (y ∷ ys) zero zero x d p q = refl
 distinct_at (y ∷ ys) zero (suc w) x d p q = let here : y ≡ x = cc in absurd (all_of_one (λ z. y ≢ z) ys w x d.0 q here)

@@ -13,3 +13,4 @@ pub mod Own
 pub mod Adds
 pub mod Built
 pub mod Cells
+pub mod Networks

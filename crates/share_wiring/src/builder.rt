@@ -11,11 +11,13 @@ ghost use Rattle.agm_net.specs.Small.{IsCell, IsSmallNet};
 ghost use Rattle.agm_net.specs.Loop.{HasNoLoop};
 ghost use Rattle.agm_net.specs.Trace.{Row, IsTrace, bit_at};
 ghost use Rattle.agm_net.specs.Label.{gadget_name};
+ghost use Rattle.agm_net.specs.Network.{Hpc2, HasGadgets};
 ghost use Rattle.share_wiring.specs.Gates.{IsGate, gate_of, gate_formula};
 ghost use Rattle.share_wiring.specs.Wiring.{Wiring, IsSharing, IsPublicWire, IsRun, Keeps, names as names_of, share, net_of};
 ghost use Rattle.share_wiring.specs.Own.{source_of, step_registers, input_wires, copy_wires, closed_wires};
 ghost use Rattle.share_wiring.specs.Adds.{Extends, Stays, AddsStep, AreHeld, IsAlways, AddsRegisters, AddsFact, Xors, Inverts, Masks, Holds, Copies, Delays, random_bits, given_bits};
 ghost use Rattle.share_wiring.specs.Cells.{IsCellSource, AreCells, AddsCells};
+ghost use Rattle.share_wiring.specs.Networks.{IsNetwork, KeepsNetwork, FitsOrder, IsServed, IsRandomWire, AreNamed};
 ghost use Rattle.share_wiring.specs.Built.{IsBuilt, ReadsPublic, ReadsShares, IsNewPart, IsNewPort, MayBeGiven, IsNew, clock_port, source_fits, input_uses, is_stored};
 
 use crate::bits::{push_input_port, push_output_port};
@@ -112,9 +114,11 @@ impl Builder {
         ensures stays { Stays self.old self.new }
         ensures made { IfOk result (λ z. AddsStep step S self.old self.new x.now.shares y.now.shares z.shares) }
         ensures shares { IfOk result (λ z. IsSharing self.new.wires S z.shares) }
+        ensures named { IfOk result (λ z. AreNamed S self.new.wires z.shares) }
         ensures adds { IfOk result (λ z. AddsFact self.old self.new (λ cycles bits. (i : ℕ) → i < S → Keeps cycles bits (share z.shares i) (source_of step i (share x.now.shares i) (share y.now.shares i)))) }
         ensures cells { OnOk result (AddsCells self.old self.new) }
         ensures registers { OnOk result (AddsRegisters (step_registers step S) self.old self.new) }
+        ensures network { OnOk result ((d : ℕ) → S ≤ d + 1 → KeepsNetwork d self.old self.new) }
         ensures err { OnErr result (self.new ≡ self.old) }
     {
         let first = self.wires.len();
@@ -139,6 +143,7 @@ impl Builder {
         ensures adds { OnOk result (AddsFact self.old self.new (λ cycles bits. Unit {0})) }
         ensures cells { OnOk result (AddsCells self.old self.new) }
         ensures registers { OnOk result (AddsRegisters 0 self.old self.new) }
+        ensures network { OnOk result ((d : ℕ) → FitsOrder d name.now → KeepsNetwork d self.old self.new) }
         ensures err { OnErr result (self.new ≡ self.old) }
     {
         let wires = self.wires.len();
@@ -179,6 +184,7 @@ impl Builder {
         ensures value { OnOk result (AddsFact self.old self.new (λ cycles bit. (t : ℕ) → t < cycles → (i : ℕ) → i < length bits.now → bit t (length self.old.wires + i) ≡ bit t (slice_index_or bits.now i 0))) }
         ensures cells { OnOk result (AddsCells self.old self.new) }
         ensures registers { OnOk result (AddsRegisters 0 self.old self.new) }
+        ensures network { OnOk result ((d : ℕ) → IsServed d self.old.wires name.now bits.now → KeepsNetwork d self.old self.new) }
         ensures err { OnErr result (self.new ≡ self.old) }
     {
         let wires = self.wires.len();
@@ -210,6 +216,7 @@ impl Builder {
         ensures value { IfOk result (λ z. AddsFact self.old self.new (λ cycles bits. Holds S cycles bits wire z.shares)) }
         ensures cells { OnOk result (AddsCells self.old self.new) }
         ensures registers { OnOk result (AddsRegisters 0 self.old self.new) }
+        ensures network { OnOk result ((d : ℕ) → S ≤ d + 1 → KeepsNetwork d self.old self.new) }
         ensures err { OnErr result (self.new ≡ self.old) }
     {
         let all = Sharing { shares: [wire; S] };
@@ -228,6 +235,7 @@ impl Builder {
         ensures value { IfOk result (λ z. AddsFact self.old self.new (λ cycles bits. Inverts S cycles bits x.now.shares z.shares)) }
         ensures cells { OnOk result (AddsCells self.old self.new) }
         ensures registers { OnOk result (AddsRegisters 0 self.old self.new) }
+        ensures network { OnOk result ((d : ℕ) → S ≤ d + 1 → KeepsNetwork d self.old self.new) }
         ensures err { OnErr result (self.new ≡ self.old) }
     {
         let inverse = self.add_step(Step::Not, x, x)?;
@@ -250,6 +258,7 @@ impl Builder {
         ensures value { IfOk result (λ z. AddsFact self.old self.new (λ cycles bits. Xors S cycles bits x.now.shares y.now.shares z.shares)) }
         ensures cells { OnOk result (AddsCells self.old self.new) }
         ensures registers { OnOk result (AddsRegisters 0 self.old self.new) }
+        ensures network { OnOk result ((d : ℕ) → S ≤ d + 1 → KeepsNetwork d self.old self.new) }
         ensures err { OnErr result (self.new ≡ self.old) }
     {
         let sum = self.add_step(Step::Xor, x, y)?;
@@ -272,6 +281,7 @@ impl Builder {
         ensures value { IfOk result (λ z. AddsFact self.old self.new (λ cycles bits. Masks S cycles bits wire x.now.shares z.shares)) }
         ensures cells { OnOk result (AddsCells self.old self.new) }
         ensures registers { OnOk result (AddsRegisters 0 self.old self.new) }
+        ensures network { OnOk result ((d : ℕ) → S ≤ d + 1 → KeepsNetwork d self.old self.new) }
         ensures err { OnErr result (self.new ≡ self.old) }
     {
         let product = self.add_step(Step::And(wire), x, x)?;
@@ -289,6 +299,7 @@ impl Builder {
         ensures value { IfOk result (λ z. AddsFact self.old self.new (λ cycles bits. Delays S cycles bits x.now.shares z.shares)) }
         ensures cells { OnOk result (AddsCells self.old self.new) }
         ensures registers { OnOk result (AddsRegisters S self.old self.new) }
+        ensures network { OnOk result ((d : ℕ) → S ≤ d + 1 → KeepsNetwork d self.old self.new) }
         ensures err { OnErr result (self.new ≡ self.old) }
     {
         self.add_step(Step::Delay, x, x)
@@ -305,6 +316,7 @@ impl Builder {
         ensures value { IfOk result (λ z. AddsFact self.old self.new (λ cycles bits. Copies S cycles bits x.now.shares z.shares)) }
         ensures cells { OnOk result (AddsCells self.old self.new) }
         ensures registers { OnOk result (AddsRegisters 0 self.old self.new) }
+        ensures network { OnOk result ((d : ℕ) → S ≤ d + 1 → KeepsNetwork d self.old self.new) }
         ensures err { OnErr result (self.new ≡ self.old) }
     {
         self.add_step(Step::Copy, x, x)
@@ -320,6 +332,7 @@ impl Builder {
         ensures value { IfOk result (λ z. AddsFact self.old self.new (λ cycles bits. IsAlways S cycles bits bit z.shares)) }
         ensures cells { OnOk result (AddsCells self.old self.new) }
         ensures registers { OnOk result (AddsRegisters 0 self.old self.new) }
+        ensures network { OnOk result ((d : ℕ) → S ≤ d + 1 → KeepsNetwork d self.old self.new) }
         ensures err { OnErr result (self.new ≡ self.old) }
     {
         let none = Sharing { shares: [0; S] };
@@ -335,9 +348,11 @@ impl Builder {
         ensures made { IfOk result (λ z. AddsStep Step.Hold S self.old self.new (replicate S 0) (replicate S 0) z.shares) }
         ensures shares { IfOk result (λ z. IsSharing self.new.wires S z.shares) }
         ensures held { IfOk result (λ z. AreHeld S self.new.wires z.shares) }
+        ensures named { IfOk result (λ z. AreNamed S self.new.wires z.shares) }
         ensures value { OnOk result (AddsFact self.old self.new (λ cycles bits. Unit {0})) }
         ensures cells { OnOk result (AddsCells self.old self.new) }
         ensures registers { OnOk result (AddsRegisters S self.old self.new) }
+        ensures network { OnOk result ((d : ℕ) → S ≤ d + 1 → KeepsNetwork d self.old self.new) }
         ensures err { OnErr result (self.new ≡ self.old) }
     {
         let none = Sharing { shares: [0; S] };
@@ -352,6 +367,7 @@ impl Builder {
         requires next { IsSharing self.old.wires S next.now.shares }
         ensures made { self.new ≡ record self.old { wires = closed_wires S (share held.now.shares) (share next.now.shares) self.old.wires } }
         ensures value { AddsFact self.old self.new (λ cycles bits. Delays S cycles bits next.now.shares held.now.shares) }
+        ensures network { (d : ℕ) → S ≤ d + 1 → S ≤ 16 → AreNamed S self.old.wires held.now.shares → KeepsNetwork d self.old self.new }
     {
         let _count = self.wires.len();
         close_wires(held, next, &mut self.wires);
@@ -434,6 +450,8 @@ impl Builder {
         ensures no_loop { IfOk result (λ net. HasNoLoop (plain_of net)) }
         ensures plain { IfOk result (λ net. IsPlain (plain_of net)) }
         ensures small { IfOk result (λ net. AreCells self.wires → IsSmallNet (plain_of net)) }
+        ensures network { IfOk result (λ net. (d : ℕ) → IsNetwork d self → self.given ≡ length (random_bits self.ports) → Hpc2 (plain_of net) d) }
+        ensures gadgets { IfOk result (λ net. (d : ℕ) → IsNetwork d self → self.given ≡ length (random_bits self.ports) → HasGadgets (plain_of net) d self.gadgets) }
         ensures runs { IfOk result (λ net. (power : Row) (tape table : List Row) → IsTrace (plain_of net) power tape table → IsRun self.wires (length table) (bit_at table)) }
     {
         let Builder {
@@ -462,6 +480,7 @@ impl Builder {
         requires { self.old.given < length (random_bits self.old.ports) }
         ensures given { OnOk result (self.new ≡ record self.old { given = self.old.given + 1 }) }
         ensures within { IfOk result (λ w. w < length self.new.wires) }
+        ensures named { IfOk result (λ w. IsRandomWire self.new.wires w) }
         ensures next { IfOk result (λ w. given_bits self.new ≡ given_bits self.old ++ w ∷ []) }
         ensures new { IfOk result (λ w. AllByRecursion (λ b. b ≢ w) (given_bits self.old)) }
         ensures extends { Extends self.old self.new }

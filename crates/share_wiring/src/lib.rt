@@ -15,7 +15,7 @@ mod wrong;
 
 pub use builder::Builder;
 pub use gate::{Gate, Source, Wire};
-pub use laws::is_driven;
+pub use laws::{is_driven, start_is_network};
 pub use masked::Masked;
 pub use renumbered::renumbered_is_same;
 pub use report::{Balance, Mode, Report};

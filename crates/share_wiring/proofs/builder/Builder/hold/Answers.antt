@@ -1,4 +1,3 @@
-use Rattle.std.proofs.Common.{replicate}
 use Rattle.share_wiring.proofs.Closing.{held_made}
 use Rattle.share_wiring.proofs.builder.Builder.hold.Goals as goal
 

@@ -1,4 +1,4 @@
-use Rattle.std.proofs.Common.{◌≡◌, ◌++◌, ◌∷◌, [], ◌∙◌, List, ℕ, length, take, cond, codes, sym, ap, refl, subst, arith}
+use Rattle.std.proofs.Common.{◌≡◌, ◌++◌, ◌∷◌, [], ◌∙◌, List, ℕ, ◌<◌, length, take, get_or, cond, codes, sym, ap, refl, subst, arith}
 use Rattle.std.specs.Str.{bytes_eq}
 use Rattle.std.specs.List.{range_with_len}
 use Rattle.agm_net.specs.Plain.{bit_names}
@@ -14,6 +14,9 @@ use Rattle.share_wiring.proofs.Runs.{extends_append, extends_same, run_front}
 use Rattle.share_wiring.proofs.PortWires.{last_in_built, append_random, none_stored, new_port}
 use Rattle.share_wiring.specs.Cells.{AddsCells}
 use Rattle.share_wiring.proofs.Cells.{port_cells}
+use Rattle.std.proofs.lemmas.List.{get_or_append_left}
+use Rattle.share_wiring.specs.Networks.{Rules, KeepsNetwork}
+use Rattle.share_wiring.proofs.PortRules.{input_rules}
 use Rattle.share_wiring.proofs.builder.Builder.port_in.Goals as goal
 
 pub invariant_of-self : goal.invariant_of-self
@@ -64,3 +67,21 @@ returns-in-Ok-clause-cells c =
     let old : Wiring = record { ports = c.self.inside.ports.items; wires = c.self.inside.wires.items; gadgets = c.self.inside.gadgets; given = c.self.inside.given } in
     let new : Wiring = record old { ports = c.push_input_port.new.ports.items; wires = c.push_input_port.new.wires.items } in
     subst (λ (net : Wiring). AddsCells net new) c.self.view_is (port_cells old new (bit_names c.args.name.now c.args.range) (λ i. Input) (λ i. tt) c.in-Ok.ensures.wires)
+
+pub returns-in-Ok-clause-network : goal.returns-in-Ok-clause-network
+returns-in-Ok-clause-network c d fits =
+    let old : Wiring = record { ports = c.self.inside.ports.items; wires = c.self.inside.wires.items; gadgets = c.self.inside.gadgets; given = c.self.inside.given } in
+    let name = c.args.name.now in
+    let range = c.args.range in
+    let new = subst (λ (net : Wiring). IsNewPort net name range) (sym c.self.view_is) c.requires in
+    let with_bits : List ℕ → List Port = λ bs. c.self.inside.ports.items ++ (record { name = name; way = In; range = range; bits = bs }) ∷ [] in
+    let ports : c.push_input_port.new.ports.items ≡ old.ports ++ new_port old name In range ∷ [] = c.in-Ok.ensures.ports ∙ ap with_bits c.in-Ok.ensures.bits in
+    let before_bits = random_bits old.ports in
+    let more = cond (bytes_eq name (codes "agm_r")) (range_with_len (length old.wires) (length (bit_names name range))) [] in
+    let bits : random_bits c.push_input_port.new.ports.items ≡ before_bits ++ more = ap random_bits ports ∙ append_random (new_port old name In range) old.ports in
+    let enough = c.self.invariant.0.given in
+    let same : (k : ℕ) → k < old.given → get_or (random_bits c.push_input_port.new.ports.items) k 0 ≡ get_or before_bits k 0 =
+    λ k lt. ap (λ bs. get_or bs k 0) bits ∙ get_or_append_left before_bits more 0 k (omega (arith, lt, enough)) in
+    subst (λ (net : Wiring). KeepsNetwork d net (record old { ports = c.push_input_port.new.ports.items; wires = c.push_input_port.new.wires.items })) c.self.view_is
+    (λ before. subst (λ ws. Rules d old.gadgets ws old.given (random_bits c.push_input_port.new.ports.items)) (sym c.in-Ok.ensures.wires)
+    (input_rules d old.gadgets old name range before_bits (random_bits c.push_input_port.new.ports.items) new.port_name new.small fits same before))

@@ -13,6 +13,8 @@ use Rattle.share_wiring.proofs.Runs.{extends_append, extends_same}
 use Rattle.share_wiring.proofs.PortWires.{out_built, given_within, copies_keep, none_stored, insert_random, new_port}
 use Rattle.share_wiring.specs.Cells.{AddsCells}
 use Rattle.share_wiring.proofs.Cells.{port_cells}
+use Rattle.share_wiring.specs.Networks.{Rules, KeepsNetwork, IsServed}
+use Rattle.share_wiring.proofs.PortRules.{output_rules}
 use Rattle.share_wiring.proofs.builder.Builder.port_out.Goals as goal
 
 pub invariant_of-self : goal.invariant_of-self
@@ -59,3 +61,17 @@ returns-in-Ok-clause-cells c =
     let new : Wiring = record old { ports = c.push_output_port.new.ports.items; wires = c.push_output_port.new.wires.items } in
     subst (λ (net : Wiring). AddsCells net new) c.self.view_is
     (port_cells old new (bit_names c.args.name.now c.args.range) (λ i. Equation (Same (get_or c.args.bits.now i 0))) (λ i. tt) c.in-Ok.ensures.wires)
+
+pub returns-in-Ok-clause-network : goal.returns-in-Ok-clause-network
+returns-in-Ok-clause-network c d served =
+    let old : Wiring = record { ports = c.self.inside.ports.items; wires = c.self.inside.wires.items; gadgets = c.self.inside.gadgets; given = c.self.inside.given } in
+    let name = c.args.name.now in
+    let range = c.args.range in
+    let bits = c.args.bits.now in
+    let new = subst (λ (net : Wiring). IsNewPort net name range) (sym c.self.view_is) c.requires.port in
+    let given = subst (λ (net : Wiring). AllByRecursion (MayBeGiven net.wires name) bits) (sym c.self.view_is) c.requires.given in
+    let serve = subst (λ (net : Wiring). IsServed d net.wires name bits) (sym c.self.view_is) served in
+    let same = ap random_bits c.in-Ok.ensures.ports ∙ insert_random (new_port old name Output range) old.ports c.args.place c.requires.other in
+    subst (λ (net : Wiring). KeepsNetwork d net (record old { ports = c.push_output_port.new.ports.items; wires = c.push_output_port.new.wires.items })) c.self.view_is
+    (λ before. subst (λ ws. Rules d old.gadgets ws old.given (random_bits c.push_output_port.new.ports.items)) (sym c.in-Ok.ensures.wires)
+    (output_rules d old.gadgets old name range (random_bits old.ports) (random_bits c.push_output_port.new.ports.items) bits new.port_name new.small c.requires.other same c.requires.bits given serve before))
