@@ -5,3 +5,6 @@ pub mod Rows
 pub mod Sizes
 mod Numbers
 mod Shares
+pub mod Placing
+pub mod Terms
+pub mod Filling

@@ -8,6 +8,9 @@ use Rattle.agm_net.specs.declared.label.PartKind.{PartKind}
 use Rattle.share_wiring.specs.Wiring.{Wiring, MayBeShare, IsSharing, names, name_at, share}
 use Rattle.share_wiring.specs.Adds.{Extends, Stays, AddsFact}
 use Rattle.share_wiring.specs.Built.{IsNewPart}
+use Rattle.share_wiring.specs.Gates.{gate_of, gate_formula}
+use Rattle.share_wiring.specs.declared.gate.Gate.{Gate}
+use Rattle.share_wiring.specs.declared.gate.Gate.TheVariants.{Zero, One, Same, Not, And, Or, Xor, Mux}
 use Rattle.share_wiring.specs.declared.gate.Source.{Source}
 use Rattle.share_wiring.specs.declared.gate.Wire.{Wire}
 use Rattle.share_wiring.proofs.Grown.{names_append}
@@ -16,6 +19,17 @@ use Rattle.hpc2_gadget.specs.Order.{rank, IsIndex, Below}
 use Rattle.hpc2_gadget.specs.Grown.{Grown, Makes, Fills, triangle}
 use Rattle.hpc2_gadget.proofs.PartNames.{part_new, below_part, below_more, part_writable, part_of_share}
 use Rattle.share_wiring.specs.Cells.{AreCells, AddsCells}
+
+-- a gate is that of its formula
+pub gate_back : (gate : Gate) → gate_of (gate_formula gate) ≡ gate
+gate_back Zero = refl
+gate_back One = refl
+gate_back (Same a) = refl
+gate_back (Not a) = refl
+gate_back (And a b) = refl
+gate_back (Or a b) = refl
+gate_back (Xor a b) = refl
+gate_back (Mux s a b) = refl
 
 -- a part's name may be given
 pub new_part : (net : Wiring) (n g : ℕ) (kind : PartKind) (i j : ℕ) (name : List ℕ) → name ≡ part_name n g kind i j → (2 ≤ n) × (n ≤ 16) → g < 2 ^ 32 → g < net.gadgets → IsIndex n kind i j

@@ -14,7 +14,7 @@ pub xor_none : (x : Bool) → x ≡ xor x false
 xor_none false = refl
 xor_none true = refl
 
-xor_assoc : (x y z : Bool) → xor (xor x y) z ≡ xor x (xor y z)
+pub xor_assoc : (x y z : Bool) → xor (xor x y) z ≡ xor x (xor y z)
 xor_assoc x y z = grind arith
 
 -- one place of a sum is changed

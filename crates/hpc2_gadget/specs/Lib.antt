@@ -1,3 +1,4 @@
 pub mod Order
 pub mod Product
 pub mod Grown
+pub mod Sound

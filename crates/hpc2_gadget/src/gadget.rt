@@ -7,6 +7,9 @@ ghost use Rattle.agm_net.specs.Label.{is_share_kind};
 ghost use Rattle.hpc2_gadget.specs.Order.{rank, IsIndex, Below};
 ghost use Rattle.hpc2_gadget.specs.Product.{SquareAt, SameAt, InverseAt, RowFact, RowsFact};
 ghost use Rattle.hpc2_gadget.specs.Product.{Multiplies, SharesAt, random_bit, pair_bit};
+ghost use Rattle.agm_net.specs.Network.{recipe, a_share};
+ghost use Rattle.share_wiring.specs.Networks.{KeepsNetwork};
+ghost use Rattle.hpc2_gadget.specs.Sound.{Sound, AreParts, HasSquares, AreFactors, IsStarted, HasRow, HasRows, IsFull};
 ghost use Rattle.hpc2_gadget.specs.Grown.{Grown, Makes, Fills, triangle};
 ghost use Rattle.share_wiring.specs.Cells.{AddsCells};
 
@@ -31,6 +34,9 @@ fn copies<const S: usize>(
     requires below { Below S place.gadget (rank S kind 0 0) (names builder.old.wires) }
     requires inside { IsSharing builder.old.wires S x.now.shares }
     ensures grown { OnOk result (Grown S place.gadget (rank S kind 0 0 + S) 0 builder.old builder.new) }
+    ensures rules { IfOk result (λ z. Sound S place.gadget place.clock builder.old →
+        ((i : ℕ) → recipe (S - 1) place.gadget kind i 0 ≡ a_share i) →
+        Sound S place.gadget place.clock builder.new × AreParts S place.gadget builder.new kind S z.shares) }
     ensures filled { IfOk result (λ z. Fills builder.old builder.new S S z.shares (λ cycles bits k w. SameAt cycles bits (share x.now.shares k) w)) }
 {
     let mut shares = [0usize; S];
@@ -52,6 +58,9 @@ fn inverses<const S: usize>(
     requires below { Below S place.gadget 33 (names builder.old.wires) }
     requires inside { IsSharing builder.old.wires S x.now.shares }
     ensures grown { OnOk result (Grown S place.gadget (33 + S) 0 builder.old builder.new) }
+    ensures rules { IfOk result (λ z. Sound S place.gadget place.clock builder.old →
+        AreParts S place.gadget builder.old PartKind.A S x.now.shares →
+        Sound S place.gadget place.clock builder.new × AreParts S place.gadget builder.new PartKind.Na S z.shares) }
     ensures filled { IfOk result (λ z. Fills builder.old builder.new S S z.shares (λ cycles bits k w. InverseAt cycles bits (share x.now.shares k) w)) }
 {
     let mut shares = [0usize; S];
@@ -76,6 +85,11 @@ fn squares<const S: usize>(
     requires first { IsSharing builder.old.wires S a.now.shares }
     requires second { IsSharing builder.old.wires S b.now.shares }
     ensures grown { OnOk result (Grown S place.gadget (49 + S * 3) 0 builder.old builder.new) }
+    ensures rules { IfOk result (λ z. Sound S place.gadget place.clock builder.old →
+        AreParts S place.gadget builder.old PartKind.A S a.now.shares →
+        AreParts S place.gadget builder.old PartKind.B S b.now.shares →
+        Sound S place.gadget place.clock builder.new × AreParts S place.gadget builder.new PartKind.M S z.shares
+        × HasSquares S place.gadget builder.new S) }
     ensures filled { IfOk result (λ z. Fills builder.old builder.new S S z.shares (λ cycles bits k w. SquareAt cycles bits (share a.now.shares k) (share b.now.shares k) w)) }
 {
     let mut shares = [0usize; S];
@@ -108,6 +122,11 @@ fn row<const S: usize>(
     requires summed { IsSharing builder.old.wires S sums.now.shares }
     requires full { length sums.now.shares ≡ S }
     ensures grown { OnOk result (Grown S place.gadget (97 + (j * 320 + j * 20)) j builder.old builder.new) }
+    ensures rules { IfOk result (λ z. Sound S place.gadget place.clock builder.old →
+        AreFactors S place.gadget builder.old a.now.shares inverse.now.shares b.now.shares →
+        IsStarted S place.gadget builder.old j sums.now.shares →
+        Sound S place.gadget place.clock builder.new × IsStarted S place.gadget builder.new (j + 1) z.shares
+        × HasRow S place.gadget builder.new j j) }
     ensures made { IfOk result (λ z. Makes builder.old builder.new S z.shares (λ cycles bits.
         RowFact S j j cycles bits (λ i. random_bit builder.old.ports (builder.old.given + i))
         a.now.shares inverse.now.shares b.now.shares sums.now.shares z.shares)) }
@@ -153,6 +172,10 @@ fn rows<const S: usize>(
     requires summed { IsSharing builder.old.wires S sums.now.shares }
     requires full { length sums.now.shares ≡ S }
     ensures grown { OnOk result (Grown S place.gadget (97 + S * 320) (triangle S) builder.old builder.new) }
+    ensures rules { OnOk result (Sound S place.gadget place.clock builder.old →
+        AreFactors S place.gadget builder.old a.now.shares inverse.now.shares b.now.shares →
+        AreParts S place.gadget builder.old PartKind.M S sums.now.shares →
+        Sound S place.gadget place.clock builder.new × HasRows S place.gadget builder.new S) }
     ensures made { IfOk result (λ z. Makes builder.old builder.new S z.shares (λ cycles bits.
         RowsFact S S cycles bits (pair_bit builder.old.ports builder.old.given)
         a.now.shares inverse.now.shares b.now.shares sums.now.shares z.shares)) }
@@ -179,6 +202,8 @@ fn product<const S: usize>(
     requires first { IsSharing builder.old.wires S x.now.shares }
     requires second { IsSharing builder.old.wires S y.now.shares }
     ensures grown { OnOk result (Grown S place.gadget (97 + S * 320) (triangle S) builder.old builder.new) }
+    ensures rules { OnOk result (Sound S place.gadget place.clock builder.old →
+        Sound S place.gadget place.clock builder.new × IsFull S place.gadget builder.new) }
     ensures shares { IfOk result (λ c. IsSharing builder.new.wires S c.shares) }
     ensures product { IfOk result (λ c. AddsFact builder.old builder.new (λ cycles bits. Multiplies S cycles bits x.now.shares y.now.shares c.shares)) }
     ensures each { IfOk result (λ c. AddsFact builder.old builder.new (λ cycles bits.
@@ -218,6 +243,7 @@ pub fn multiply<const S: usize>(
     ensures gadgets { OnOk result (builder.new.gadgets ≡ builder.old.gadgets + 1) }
     ensures given { OnOk result (builder.new.given ≡ builder.old.given + S * (S - 1) / 2) }
     ensures cells { OnOk result (AddsCells builder.old builder.new) }
+    ensures network { OnOk result (KeepsNetwork (S - 1) builder.old builder.new) }
     ensures shares { IfOk result (λ c. IsSharing builder.new.wires S c.shares) }
     ensures product { IfOk result (λ c. AddsFact builder.old builder.new (λ cycles bits. Multiplies S cycles bits a.now.shares b.now.shares c.shares)) }
     ensures each { IfOk result (λ c. AddsFact builder.old builder.new (λ cycles bits.

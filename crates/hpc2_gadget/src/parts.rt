@@ -7,15 +7,17 @@ ghost use Rattle.agm_net.specs.Small.{IsCell};
 ghost use Rattle.share_wiring.specs.Gates.{gate_formula, gate_below};
 ghost use Rattle.share_wiring.specs.Wiring.{MayBeShare, names};
 ghost use Rattle.share_wiring.specs.Adds.{Extends, AddsFact, random_bits};
+ghost use Rattle.share_wiring.specs.Networks.{IsBy};
 ghost use Rattle.agm_net.specs.Label.{is_share_kind};
 ghost use Rattle.hpc2_gadget.specs.Order.{rank, cell, turn, place_of as place_of_spec, IsIndex, Below};
 ghost use Rattle.hpc2_gadget.specs.Grown.{Grown};
 ghost use Rattle.hpc2_gadget.specs.Product.{SquareAt, HalvesAt, CrossAt, random_bit};
+ghost use Rattle.hpc2_gadget.specs.Sound.{At, Has, IsSum, Sound, AddsPart, AfterOdd, IsStored, Crosses, HasCross, IsSide, HasPair};
 
 use crate::names::{Place, part_name};
 use agm_bits::Memory;
 use agm_net::PartKind;
-use share_wiring::{Builder, Gate};
+use share_wiring::{Builder, Gate, Source};
 
 /// What the masked halves of a product read: the share of the first factor and its inverse, the share of the second, and the random
 /// bit, now and stored.
@@ -43,6 +45,7 @@ pub fn gate(
     requires fits { IsTrue (gate_below gate (length builder.old.wires)) }
     requires cell { IsCell (gate_formula gate) }
     ensures grown { OnOk result (Grown place.shares place.gadget (rank place.shares kind i j + 1) 0 builder.old builder.new) }
+    ensures part { IfOk result (AddsPart place.shares place.gadget kind i j (Source.Equation gate) builder.old builder.new) }
     ensures within { IfOk result (λ w. w < length builder.new.wires) }
     ensures shared { IfOk result (λ w. IsTrue (is_share_kind kind) → MayBeShare builder.new.wires place.shares i w) }
     ensures value { IfOk result (λ w. AddsFact builder.old builder.new (λ cycles bits. (t : ℕ) → t < cycles → bits t w ≡ value (bits t) (gate_formula gate))) }
@@ -68,6 +71,7 @@ pub fn register(
     requires next { next < length builder.old.wires }
     requires clock { place.clock < length builder.old.wires }
     ensures grown { OnOk result (Grown place.shares place.gadget (rank place.shares kind i j + 1) 0 builder.old builder.new) }
+    ensures part { IfOk result (AddsPart place.shares place.gadget kind i j (Source.Register next place.clock) builder.old builder.new) }
     ensures within { IfOk result (λ w. w < length builder.new.wires) }
     ensures shared { IfOk result (λ w. IsTrue (is_share_kind kind) → MayBeShare builder.new.wires place.shares i w) }
     ensures value { IfOk result (λ w. AddsFact builder.old builder.new (λ cycles bits. (t : ℕ) → t + 1 < cycles → bits (t + 1) w ≡ bits t next)) }
@@ -95,6 +99,11 @@ fn stored(
     requires fits { IsTrue (gate_below gate_of (length builder.old.wires)) }
     requires cell { IsCell (gate_formula gate_of) }
     ensures grown { OnOk result (Grown place.shares place.gadget (rank place.shares kinds.1 i j + 1) 0 builder.old builder.new) }
+    ensures rules { IfOk result (λ w. Sound place.shares place.gadget place.clock builder.old →
+        IsStored place.shares place.gadget builder.old kinds.0 kinds.1 i j (Source.Equation gate_of) →
+        Sound place.shares place.gadget place.clock builder.new
+        × Has place.shares place.gadget builder.new kinds.0 i j
+        × At place.shares place.gadget builder.new kinds.1 i j w) }
     ensures within { IfOk result (λ w. w < length builder.new.wires) }
     ensures shared { IfOk result (λ w. IsTrue (is_share_kind kinds.1) → MayBeShare builder.new.wires place.shares i w) }
     ensures value { IfOk result (λ w. AddsFact builder.old builder.new (λ cycles bits. (t : ℕ) → t + 1 < cycles → bits (t + 1) w ≡ value (bits t) (gate_formula gate_of))) }
@@ -119,6 +128,13 @@ pub fn square(
     requires a { a < length builder.old.wires }
     requires b { b < length builder.old.wires }
     ensures grown { OnOk result (Grown place.shares place.gadget (52 + i * 3) 0 builder.old builder.new) }
+    ensures rules { IfOk result (λ w. Sound place.shares place.gadget place.clock builder.old →
+        At place.shares place.gadget builder.old PartKind.A i 0 a →
+        At place.shares place.gadget builder.old PartKind.B i 0 b →
+        Sound place.shares place.gadget place.clock builder.new
+        × Has place.shares place.gadget builder.new PartKind.Bb i 0
+        × Has place.shares place.gadget builder.new PartKind.Mx i 0
+        × At place.shares place.gadget builder.new PartKind.M i 0 w) }
     ensures shared { IfOk result (MayBeShare builder.new.wires place.shares i) }
     ensures value { IfOk result (λ w. AddsFact builder.old builder.new (λ cycles bits. SquareAt cycles bits a b w)) }
 {
@@ -152,6 +168,9 @@ fn halves(
     requires random { wires.random < length builder.old.wires }
     requires stored { wires.stored < length builder.old.wires }
     ensures grown { OnOk result (Grown place.shares place.gadget (cell i j + (8 + turn i j * 6)) 0 builder.old builder.new) }
+    ensures rules { IfOk result (λ z. Sound place.shares place.gadget place.clock builder.old →
+        Crosses place.shares place.gadget builder.old i j wires.a wires.inverse wires.b wires.random wires.stored →
+        Sound place.shares place.gadget place.clock builder.new × HasCross place.shares place.gadget builder.new i j z.0 z.1) }
     ensures within { IfOk result (λ z. (z.0 < length builder.new.wires) × (z.1 < length builder.new.wires)) }
     ensures value { IfOk result (λ z. AddsFact builder.old builder.new (λ cycles bits. HalvesAt cycles bits wires.a wires.inverse wires.b wires.random wires.stored z.0 z.1)) }
 {
@@ -186,6 +205,10 @@ fn second_sum(
     requires fits { IsTrue (gate_below sum (length builder.old.wires)) }
     requires cell { IsCell (gate_formula sum) }
     ensures grown { OnOk result (Grown place.shares place.gadget (cell i j + (16 + turn i j * 2)) 0 builder.old builder.new) }
+    ensures rules { IfOk result (λ w. Sound place.shares place.gadget place.clock builder.old →
+        IsBy (place.shares - 1) builder.old.wires (AfterOdd (place.shares - 1) place.gadget i j) (Source.Equation sum) →
+        Sound place.shares place.gadget place.clock builder.new
+        × IsSum place.shares place.gadget builder.new i (2 * place_of_spec i j + 2) w) }
     ensures shared { IfOk result (MayBeShare builder.new.wires place.shares i) }
     ensures value { IfOk result (λ w. AddsFact builder.old builder.new (λ cycles bits. (t : ℕ) → t < cycles → bits t w ≡ value (bits t) (gate_formula sum))) }
 {
@@ -214,6 +237,13 @@ fn two_more(
     requires sum { sum < length builder.old.wires }
     requires terms { (terms.0 < length builder.old.wires) × (terms.1 < length builder.old.wires) }
     ensures grown { OnOk result (Grown place.shares place.gadget (cell i j + (16 + turn i j * 2)) 0 builder.old builder.new) }
+    ensures rules { IfOk result (λ w. Sound place.shares place.gadget place.clock builder.old →
+        IsSum place.shares place.gadget builder.old i (2 * place_of_spec i j) sum →
+        At place.shares place.gadget builder.old PartKind.U i j terms.0 →
+        At place.shares place.gadget builder.old PartKind.W i j terms.1 →
+        Sound place.shares place.gadget place.clock builder.new
+        × Has place.shares place.gadget builder.new PartKind.S i (2 * place_of_spec i j + 1)
+        × IsSum place.shares place.gadget builder.new i (2 * place_of_spec i j + 2) w) }
     ensures shared { IfOk result (MayBeShare builder.new.wires place.shares i) }
     ensures value { IfOk result (λ w. AddsFact builder.old builder.new (λ cycles bits. (t : ℕ) → t < cycles → bits t w ≡ xor (bits t sum) (xor (bits t terms.0) (bits t terms.1)))) }
 {
@@ -257,6 +287,13 @@ pub fn pair(
     requires first { (x.a < length builder.old.wires) × (x.inverse < length builder.old.wires) × (x.b < length builder.old.wires) × (x.sum < length builder.old.wires) }
     requires second { (y.a < length builder.old.wires) × (y.inverse < length builder.old.wires) × (y.b < length builder.old.wires) × (y.sum < length builder.old.wires) }
     ensures grown { OnOk result (Grown place.shares place.gadget (117 + (j * 320 + i * 20)) 1 builder.old builder.new) }
+    ensures rules { IfOk result (λ z. Sound place.shares place.gadget place.clock builder.old →
+        IsSide place.shares place.gadget builder.old i (2 * place_of_spec i j) x.a x.inverse x.b x.sum →
+        IsSide place.shares place.gadget builder.old j (2 * place_of_spec j i) y.a y.inverse y.b y.sum →
+        Sound place.shares place.gadget place.clock builder.new
+        × HasPair place.shares place.gadget builder.new i j
+        × IsSum place.shares place.gadget builder.new i (2 * place_of_spec i j + 2) z.0
+        × IsSum place.shares place.gadget builder.new j (2 * place_of_spec j i + 2) z.1) }
     ensures low { IfOk result (λ z. MayBeShare builder.new.wires place.shares i z.0) }
     ensures high { IfOk result (λ z. MayBeShare builder.new.wires place.shares j z.1) }
     ensures value { let r = random_bit builder.old.ports builder.old.given in

@@ -11,6 +11,15 @@ use Rattle.hpc2_gadget.proofs.Rows.{copied}
 use Rattle.hpc2_gadget.proofs.Shares.{copied_shares}
 use Rattle.hpc2_gadget.proofs.Sizes.{array_fits}
 use Rattle.share_wiring.specs.Cells.{AreCells}
+use Rattle.std.proofs.Common.{◌-◌, ◌^◌}
+use Rattle.agm_net.specs.declared.label.PartKind.TheVariants.{Clk}
+use Rattle.share_wiring.specs.Networks.{IsNetwork, Rules}
+use Rattle.share_wiring.specs.declared.gate.Gate.TheVariants.{Same}
+use Rattle.share_wiring.specs.declared.gate.Source.TheVariants.{Equation}
+use Rattle.hpc2_gadget.specs.Order.{IsIndex}
+use Rattle.hpc2_gadget.specs.Sound.{Sound}
+use Rattle.hpc2_gadget.proofs.Filling.{whole_more}
+use Rattle.hpc2_gadget.proofs.Placing.{added_at, added_rules}
 use Rattle.hpc2_gadget.proofs.gadget.multiply.Goals as goal
 
 pub gate-requires-clause-below : goal.gate-requires-clause-below
@@ -94,3 +103,36 @@ returns-clause-each g c cycles bits run =
       subst (λ r. SharesAt g.row.S cycles bits r c.args.a.now.shares c.args.b.now.shares c.in_ok-answer.answer.shares) (ap₂ pair_bit ports given)
           (copied_shares g.row.S cycles bits (pair_bit c.gate.new.builder.ports c.gate.new.builder.given) c.args.a.now.shares c.args.b.now.shares c.in_ok-shares.shares.shares c.in_ok-answer.answer.shares shares.1 answer.1),
     )
+
+pub returns-clause-network : goal.returns-clause-network
+returns-clause-network g c before =
+    let n = g.row.S in
+    let d = n - 1 in
+    let size = c.requires.size.0 in
+    let few = c.requires.gadgets in
+    let some : 1 ≤ n = omega (arith, size) in
+    let le : n ≤ d + 1 = omega (arith, size) in
+    let gadget = c.begin_gadget-gadget.result in
+    let number = c.begin_gadget-gadget.ensures.number in
+    let begun = c.begin_gadget-gadget.ensures.begun in
+    let small : gadget < 2 ^ 32 = omega (arith, number, few) in
+    let net1 = c.begin_gadget-gadget.new.self in
+    let net2 = c.gate.new.builder in
+    let net3 = c.product.new.builder in
+    let clock = c.in_ok-clock.clock in
+    let zeroth = c.clock.ensures.zero in
+    let source = Equation (Same c.clock.result) in
+    let adds = c.in_ok-clock.ensures.part in
+    let index : IsIndex n Clk 0 0 = (omega arith, omega arith, (refl, refl)) in
+    let start : Rules d gadget net1.wires net1.given (random_bits net1.ports) =
+    subst (λ (net : Wiring). Rules d gadget net.wires net.given (random_bits net.ports)) (sym begun)
+    (subst (λ k. Rules d k c.args.builder.now.wires c.args.builder.now.given (random_bits c.args.builder.now.ports)) (sym number) before) in
+    let one = added_rules n gadget Clk 0 0 source net1 net2 clock some small index adds (λ no. absurd (cc)) (ap (λ k. Equation (Same k)) zeroth) start in
+    let at = added_at n gadget Clk 0 0 source net1 net2 clock some small index adds in
+    let sound : Sound n gadget clock net2 = record { rules = one; clocked = at } in
+    let made = c.in_ok-shares.ensures.rules sound in
+    let more = whole_more d gadget net3.wires net3.given (random_bits net3.ports) made.0.rules made.1 in
+    let gadgets : gadget + 1 ≡ net3.gadgets =
+    (let after = c.in_ok-shares.ensures.grown.gadgets in let with_clock = c.in_ok-clock.ensures.grown.gadgets in let first = ap (λ (w : Wiring). w.gadgets) begun in omega (arith, after, with_clock, first, number)) in
+    let network : IsNetwork d net3 = subst (λ k. Rules d k net3.wires net3.given (random_bits net3.ports)) gadgets more in
+    c.in_ok-answer.ensures.network d le network

@@ -7,6 +7,8 @@ use Rattle.hpc2_gadget.proofs.Made.{grown_trans, grown_more, makes_row, triangle
 use Rattle.hpc2_gadget.proofs.Rows.{rows_more}
 use Rattle.hpc2_gadget.proofs.Shares.{rows_shares_more, pair_in_order, pair_turned}
 use Rattle.hpc2_gadget.proofs.Sizes.{array_fits}
+use Rattle.hpc2_gadget.specs.Sound.{HasRows}
+use Rattle.hpc2_gadget.proofs.Filling.{factors_later, rows_one}
 use Rattle.hpc2_gadget.proofs.gadget.rows.Goals as goal
 
 pub row-requires : goal.row-requires
@@ -62,6 +64,11 @@ loop-j-preserved g c =
             rows_more n j cycles bits a inverse b sums shares new before.0 now.0,
             rows_shares_more n j cycles bits random taken a inverse b sums shares new (λ i lt. below i lt ∙ order i j lt) (λ i lt. below i lt ∙ turned i j lt) before.1 now.1,
           )),
+      λ sound factors squares.
+          let gadget = c.args.place.gadget in
+          let past = c.loop-j.invariant.2 sound factors squares in
+          let made = c.in_ok-all.ensures.rules past.0 (factors_later n gadget first c.loop-j.builder a inverse b c.loop-j.invariant.0.extends factors) past.1 in
+          (made.0, made.1, rows_one n gadget j c.loop-j.builder c.row.new.builder c.in_ok-all.ensures.grown.extends past.2 made.2),
     )
 
 pub returns-clause-made : goal.returns-clause-made
@@ -71,3 +78,9 @@ returns-clause-made g c =
     subst
     (λ m. Makes first c.loop-j.builder g.row.S c.loop-j.all.shares (λ cycles bits. RowsFact g.row.S m cycles bits (pair_bit first.ports first.given) c.args.a.now.shares c.args.inverse.now.shares c.args.b.now.shares c.args.sums.now.shares c.loop-j.all.shares))
     end c.loop-j.invariant.1
+
+pub returns-clause-rules : goal.returns-clause-rules
+returns-clause-rules g c sound factors squares =
+    let end : c.loop-j.j ≡ g.row.S = omega (arith, c.loop-j-test.false, c.loop-j.auto.j-end) in
+    let all = c.loop-j.invariant.2 sound factors squares in
+    (all.0, subst (λ m. HasRows g.row.S c.args.place.gadget c.loop-j.builder m) end all.2)
