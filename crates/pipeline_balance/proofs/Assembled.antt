@@ -8,7 +8,8 @@ use Rattle.logic_graph.specs.declared.nodes.XanNode.TheVariants.{Zero, One, Inpu
 use Rattle.share_wiring.specs.Wiring.{Wiring}
 use Rattle.share_wiring.specs.Adds.{AddsFact}
 use Rattle.share_wiring.specs.declared.report.Report.{Report}
-use Rattle.pipeline_balance.specs.Machines.{Machine, IsMachine, has_source, next_node}
+use Rattle.level_plan.specs.Passes.{has_source}
+use Rattle.pipeline_balance.specs.Machines.{Machine, IsMachine, next_node}
 use Rattle.pipeline_balance.specs.Signals.{selected}
 use Rattle.pipeline_balance.specs.Pipelines.{Signals, IsMade, IsClosed, IsPipeline}
 use Rattle.pipeline_balance.specs.Masked.{signals_of, IsPipelined}

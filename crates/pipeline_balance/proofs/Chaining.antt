@@ -1,5 +1,5 @@
 -- Chains that grow, and what is read of them.
-use Rattle.std.proofs.Common.{◌≡◌, ◌<◌, ◌≤◌, ◌+◌, ◌-◌, ◌++◌, ℕ, zero, suc, Bool, List, [], ◌∷◌, length, length-append, get_or, refl, sym, ap, subst, inl, inr, ◌∙◌, arith}
+use Rattle.std.proofs.Common.{◌≡◌, ◌<◌, ◌+◌, ◌-◌, ◌++◌, ℕ, Bool, List, [], ◌∷◌, length, length-append, refl, sym, ap, subst, inl, inr, ◌∙◌, arith}
 use Rattle.std.proofs.lemmas.Bool.{cases_lt}
 use Rattle.std.proofs.lemmas.List.{get_or_append_left}
 use Rattle.std.proofs.Math.Seq.{get_or-append_seam}
@@ -118,7 +118,7 @@ module _ (n : ℕ) (table : List (Chain n)) (k q : ℕ) (read : IsRead n table k
 abbrev pub Growing : (n : ℕ) → (start now : Wiring) → Value n → (level at : ℕ) → List (Value n) → Value n → Type 0
 Growing n start now v level at xs reached =
     IsChain n now (is_secret v) level at (record { level = level; stages = xs })
-    × Adds start now 0 0 (IsCarried n (record { level = level; stages = xs }))
+    × Adds n start now 0 0 (IsCarried n (record { level = level; stages = xs }))
     × (value_at xs 0 ≡ v)
     × (reached ≡ value_at xs (at - level))
 

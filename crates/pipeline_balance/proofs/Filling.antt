@@ -10,17 +10,17 @@ use Rattle.logic_graph.specs.Nodes.{xan_reads_before}
 use Rattle.logic_graph.specs.declared.nodes.XanNode.{XanNode}
 use Rattle.logic_graph.specs.declared.nodes.XanNode.TheVariants.{Zero, One, Input, Q, Not, Xor, And}
 use Rattle.share_wiring.specs.Wiring.{Wiring}
-use Rattle.share_wiring.specs.Adds.{Extends, random_bits}
+use Rattle.share_wiring.specs.Adds.{random_bits}
 use Rattle.pipeline_balance.specs.declared.values.Value.{Value}
 use Rattle.pipeline_balance.specs.declared.values.Value.TheVariants.{Public}
 use Rattle.pipeline_balance.specs.declared.chains.Chain.{Chain}
 use Rattle.pipeline_balance.specs.declared.chains.Layout.{Layout}
-use Rattle.pipeline_balance.specs.Pipelines.{Signals, IsMade}
+use Rattle.pipeline_balance.specs.Pipelines.{IsMade}
 use Rattle.pipeline_balance.specs.Growing.{AreInOrder, HasMore}
 use Rattle.pipeline_balance.specs.Shared.{Adds, Agree, placed}
-use Rattle.pipeline_balance.specs.Valued.{is_secret, IsValue}
-use Rattle.pipeline_balance.specs.Machines.{has_source}
-use Rattle.pipeline_balance.specs.Chained.{value_at, chain_at, stage, kind_at, places_of, IsChain, AreChains, AreValues, AreSources, IsCarried, AreCarried, IsRead, CanBeMade, node_kind, gadgets_in, HasSources, MakesNode, Within, IsPlanned, secret_at, first_at, last_at, late_at, IsLayout, NodesMade, gadgets_before, IsFilled}
+use Rattle.pipeline_balance.specs.Valued.{is_secret}
+use Rattle.level_plan.specs.Passes.{has_source}
+use Rattle.pipeline_balance.specs.Chained.{value_at, chain_at, stage, kind_at, places_of, IsChain, AreChains, AreValues, AreSources, IsCarried, AreCarried, IsRead, CanBeMade, node_kind, gadgets_in, MakesNode, Within, IsPlanned, secret_at, first_at, last_at, late_at, IsLayout, NodesMade, gadgets_before, IsFilled}
 use Rattle.pipeline_balance.proofs.Bridges.{agree_made}
 use Rattle.pipeline_balance.proofs.Adding.{adds_none, adds_then, adds_so, value_still}
 use Rattle.pipeline_balance.proofs.Chaining.{has_values, chain_stays}
@@ -255,7 +255,7 @@ module _ (n : ℕ) (nodes : List XanNode) (inputs registers : List (Value n)) (l
 
   pub filled_more : (new : Wiring) (c : Chain n) (longer : List (Chain n)) → longer ≡ table ++ c ∷ []
       → IsChain n new (node_kind (λ i. is_secret (value_at inputs i)) (λ r. is_secret (value_at registers r)) (kind_at table) node) (first_at layout k) (last_at layout k) c
-      → Adds now new (gadgets_in (kind_at table) node) (gadgets_in (kind_at table) node * (n * (n - 1) / 2)) (λ cycles bits. MakesNode n inputs registers table node (first_at layout k) (stage c 0) cycles bits × IsCarried n c cycles bits)
+      → Adds n now new (gadgets_in (kind_at table) node) (gadgets_in (kind_at table) node * (n * (n - 1) / 2)) (λ cycles bits. MakesNode n inputs registers table node (first_at layout k) (stage c 0) cycles bits × IsCarried n c cycles bits)
       → IsFilled n nodes inputs registers layout start new (k + 1) longer
   filled_more new c longer e chain adds =
       let r = n * (n - 1) / 2 in
@@ -287,10 +287,10 @@ module _ (n : ℕ) (nodes : List XanNode) (inputs registers : List (Value n)) (l
   -- the same, where the table and the levels were lent
   pub filled_read : (new : Wiring) (c : Chain n) (longer t : List (Chain n)) (levels lasts : List ℕ) → t ≡ table → levels ≡ layout.levels → lasts ≡ layout.lasts → longer ≡ table ++ c ∷ []
       → IsChain n new (node_kind (λ i. is_secret (value_at inputs i)) (λ r. is_secret (value_at registers r)) (kind_at t) node) (get_or levels k 0) (get_or lasts k 0) c
-      → Adds now new (gadgets_in (kind_at t) node) (gadgets_in (kind_at t) node * (n * (n - 1) / 2)) (λ cycles bits. MakesNode n inputs registers t node (get_or levels k 0) (stage c 0) cycles bits × IsCarried n c cycles bits)
+      → Adds n now new (gadgets_in (kind_at t) node) (gadgets_in (kind_at t) node * (n * (n - 1) / 2)) (λ cycles bits. MakesNode n inputs registers t node (get_or levels k 0) (stage c 0) cycles bits × IsCarried n c cycles bits)
       → IsFilled n nodes inputs registers layout start new (k + 1) longer
   filled_read new c longer t levels lasts e f h l chain adds =
       filled_more new c longer l
       (subst (λ x. IsChain n new (node_kind (λ i. is_secret (value_at inputs i)) (λ r. is_secret (value_at registers r)) (kind_at x) node) (first_at layout k) (last_at layout k) c) e
       (subst₂ (λ x y. IsChain n new (node_kind (λ i. is_secret (value_at inputs i)) (λ r. is_secret (value_at registers r)) (kind_at t) node) (get_or x k 0) (get_or y k 0) c) f h chain))
-      (subst₂ (λ x y. Adds now new (gadgets_in (kind_at x) node) (gadgets_in (kind_at x) node * (n * (n - 1) / 2)) (λ cycles bits. MakesNode n inputs registers x node (get_or y k 0) (stage c 0) cycles bits × IsCarried n c cycles bits)) e f adds)
+      (subst₂ (λ x y. Adds n now new (gadgets_in (kind_at x) node) (gadgets_in (kind_at x) node * (n * (n - 1) / 2)) (λ cycles bits. MakesNode n inputs registers x node (get_or y k 0) (stage c 0) cycles bits × IsCarried n c cycles bits)) e f adds)

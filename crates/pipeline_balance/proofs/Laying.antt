@@ -5,7 +5,7 @@ use Rattle.logic_graph.specs.declared.nodes.XanNode.{XanNode}
 use Rattle.logic_graph.specs.declared.nodes.XanNode.TheVariants.{Zero, One, Input, Q, Not, Xor, And}
 use Rattle.pipeline_balance.specs.declared.chains.Layout.{Layout}
 use Rattle.pipeline_balance.specs.Piped.{node_at, ReachDepth}
-use Rattle.pipeline_balance.specs.Machines.{has_source}
+use Rattle.level_plan.specs.Passes.{has_source}
 use Rattle.pipeline_balance.specs.Chained.{Within, IsPlanned, node_kind, secret_at, first_at, last_at, late_at, IsLayout}
 use Rattle.pipeline_balance.specs.Reaching.{flag_at, reads_of, FitsLevels, AreReached}
 

@@ -1,5 +1,5 @@
 -- Nodes that are made of what a table has.
-use Rattle.std.proofs.Common.{◌≡◌, ◌<◌, ◌≤◌, ◌+◌, ◌-◌, ◌&&◌, ◌||◌, ℕ, Bool, true, false, cond, not, List, [], length, refl, sym, ap, ap₂, subst, inl, inr, ◌∙◌, arith, IsTrue}
+use Rattle.std.proofs.Common.{◌≡◌, ◌<◌, ◌≤◌, ◌+◌, ◌-◌, ◌&&◌, ℕ, Bool, true, false, cond, List, length, sym, ap, subst, inl, inr, ◌∙◌, arith}
 use Rattle.agm_net.specs.Formula.{xor}
 use Rattle.logic_graph.specs.declared.nodes.XanNode.TheVariants.{Zero, One, Input, Q, Not, Xor, And}
 use Rattle.share_wiring.specs.Wiring.{Wiring}

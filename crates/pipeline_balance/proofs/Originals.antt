@@ -60,7 +60,7 @@ module _ (nodes : List XanNode) (in_order : (k : ℕ) (n : XanNode) → slice_ge
 image_bit : {X : Type 0} (f : X → Bool) (xs : List X) (i : ℕ) (x : X) → slice_get xs i ≡ Some x → bit_of (map f xs) i ≡ f x
 image_bit f xs i x at = get_or_from_slice_get (map f xs) i (f x) false (get_image f xs i x at)
 
-found : {X : Type 0} (xs : List X) (i : ℕ) → i < length xs → (x : X) × (slice_get xs i ≡ Some x)
+pub found : {X : Type 0} (xs : List X) (i : ℕ) → i < length xs → (x : X) × (slice_get xs i ≡ Some x)
 found xs i lt = elim (slice_get_cases xs i).1 [ inl here ↦ (here.0, here.2) | inr past ↦ absurd (let le = past.0 in omega arith) ]
 
 module _ (net : PlainNet) (graph : Graph) (m : Machine) (well : WellFormed net) (none : HasNoLoop net) (graph_of : IsGraphOf net graph) (of : IsMachineOf net graph m)

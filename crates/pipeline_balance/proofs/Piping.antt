@@ -1,28 +1,27 @@
 -- The pipeline of a graph, from its registers, its nodes and its ends.
-use Rattle.std.proofs.Common.{◌≡◌, ◌<◌, ◌≤◌, ◌+◌, ◌-◌, ◌*◌, ◌/◌, ◌^◌, ◌++◌, ℕ, zero, suc, Bool, false, List, [], length, length-append, map, get_or, slice_get, Some, refl, sym, ap, ap₂, subst, subst₂, ◌∙◌, arith}
+use Rattle.std.proofs.Common.{◌≡◌, ◌<◌, ◌≤◌, ◌+◌, ◌^◌, ◌++◌, ℕ, Bool, List, length, map, get_or, refl, sym, ap, subst, ◌∙◌, arith}
 use Rattle.std.proofs.lemmas.List.{get_or_append_left, get_or-append-add, length-map}
 use Rattle.std.proofs.lemmas.Option.{slice_get_within}
 use Rattle.logic_graph.specs.declared.nodes.XanNode.{XanNode}
-use Rattle.share_wiring.specs.Wiring.{Wiring, IsPublicWire}
+use Rattle.share_wiring.specs.Wiring.{Wiring}
 use Rattle.share_wiring.specs.Adds.{random_bits}
 use Rattle.pipeline_balance.specs.declared.values.Value.{Value}
 use Rattle.pipeline_balance.specs.declared.chains.Chain.{Chain}
 use Rattle.pipeline_balance.specs.declared.chains.Layout.{Layout}
-use Rattle.pipeline_balance.specs.Machines.{out_node, next_node}
 use Rattle.pipeline_balance.specs.Signals.{Signal, Carries}
 use Rattle.pipeline_balance.specs.Pipelines.{Signals, IsClosed, IsPipeline}
 use Rattle.pipeline_balance.specs.Shared.{Adds}
 use Rattle.pipeline_balance.specs.Valued.{is_secret, size_of, wires_of, IsValue, signal}
-use Rattle.pipeline_balance.specs.Chained.{value_at, chain_at, stage, at_level, places_of, AreSources, AreCarried, IsRead, HasSources, secret_at, first_at, last_at, IsLayout, NodesMade, gadgets_before, IsFilled}
-use Rattle.pipeline_balance.specs.Registered.{AreRegisters, HeldFrom, Goes, IsChosen, AreClosed}
+use Rattle.pipeline_balance.specs.Chained.{value_at, chain_at, stage, at_level, places_of, AreSources, AreCarried, IsRead, secret_at, first_at, last_at, IsLayout, NodesMade, gadgets_before, IsFilled}
+use Rattle.pipeline_balance.specs.Registered.{AreRegisters, HeldFrom, IsChosen, AreClosed}
 use Rattle.pipeline_balance.specs.Piped.{node_at, machine_of, ReachDepth, built_signals, MakesPipeline}
 use Rattle.pipeline_balance.proofs.Adding.{value_still}
 use Rattle.pipeline_balance.proofs.Chaining.{has_values, read_value, read_kind, read_carried}
-use Rattle.pipeline_balance.proofs.Registering.{held_stays, value_goes, same_kind}
+use Rattle.pipeline_balance.proofs.Registering.{held_stays, value_goes}
 
 -- ---- behind the registers that are held
 
-module _ (n : ℕ) (start mid : Wiring) (firsts held : List (Value n)) (registers : AreRegisters n mid firsts held) (adds : Adds start mid 0 0 (λ cycles bits. Unit {0})) where
+module _ (n : ℕ) (start mid : Wiring) (firsts held : List (Value n)) (registers : AreRegisters n mid firsts held) (adds : Adds n start mid 0 0 (λ cycles bits. Unit {0})) where
   pub sources_still : (values : List (Value n)) → AreSources n start values → AreSources n mid values
   sources_still values inside i lt = value_still n start mid (value_at values i) adds.extends (inside i lt)
 
@@ -92,7 +91,7 @@ module _ (n : ℕ) (nodes : List XanNode) (inputs held : List (Value n)) (layout
 -- ---- behind the registers that are closed
 
 module _ (n : ℕ) (nodes : List XanNode) (inputs firsts held stored ends : List (Value n)) (outputs nexts : List ℕ) (layout : Layout) (start mid now new : Wiring) (load depth : ℕ) (table : List (Chain n))
-    (holds : Adds start mid 0 0 (λ cycles bits. Unit {0})) (filled : IsFilled n nodes inputs held layout mid now (length nodes) table) (closed : AreClosed n now new load firsts held stored (length held))
+    (holds : Adds n start mid 0 0 (λ cycles bits. Unit {0})) (filled : IsFilled n nodes inputs held layout mid now (length nodes) table) (closed : AreClosed n now new load firsts held stored (length held))
     (one_each : length held ≡ length nexts)
     (reach_out : ReachDepth nodes layout depth outputs) (each_out : length ends ≡ length outputs) (out_are : (j : ℕ) → j < length outputs → value_at ends j ≡ at_level table (node_at outputs j) depth)
     (reach_next : ReachDepth nodes layout depth nexts) (each_next : length stored ≡ length nexts) (next_are : (j : ℕ) → j < length nexts → value_at stored j ≡ at_level table (node_at nexts j) depth) where
@@ -155,6 +154,7 @@ module _ (n : ℕ) (nodes : List XanNode) (inputs firsts held stored ends : List
         ports = closed.goes.ports ∙ (filled.adds.ports ∙ holds.ports);
         begun = omega (arith, begun, begun', begun'');
         given = omega (arith, given, given', given'');
+        sound = λ h. closed.goes.sound (filled.adds.sound (holds.sound h));
       }
 
 pub map_length : (n : ℕ) (xs ys : List (Value n)) → map is_secret xs ≡ map is_secret ys → length xs ≡ length ys

@@ -1,17 +1,16 @@
 -- Input ports, one after another.
-use Rattle.std.proofs.Common.{◌≡◌, ◌≢◌, ◌<◌, ◌≤◌, ◌+◌, ◌-◌, ◌++◌, ◌⊎◌, ℕ, zero, suc, List, [], ◌∷◌, Option, Some, None, length, length-append, map, flat_map, get_or, refl, sym, ap, ap₂, subst, inl, inr, ◌∙◌, arith, append_assoc, append-nil}
+use Rattle.std.proofs.Common.{◌≡◌, ◌≢◌, ◌<◌, ◌+◌, ◌++◌, ℕ, zero, suc, List, [], ◌∷◌, Option, length, length-append, map, flat_map, get_or, refl, sym, ap, ap₂, subst, inl, inr, ◌∙◌, arith, append_assoc, append-nil}
 use Rattle.std.specs.List.{AllByRecursion, range_with_len}
 use Rattle.std.proofs.lemmas.Bool.{cases_lt}
 use Rattle.std.proofs.Math.Seq.{get_or-append_seam}
 use Rattle.std.proofs.lemmas.List.{get_or_append_left, map-append}
-use Rattle.agm_net.specs.Plain.{bit_names, select_name}
+use Rattle.agm_net.specs.Plain.{bit_names}
 use Rattle.agm_net.specs.declared.port.Port.{Port}
 use Rattle.agm_net.specs.declared.port.Range.{Range}
-use Rattle.agm_net.specs.declared.port.Way.TheVariants.{Input}
-use Rattle.agm_net.proofs.Lists.{all_from}
 use Rattle.share_wiring.specs.Adds.{Extends, AddsFact}
-use Rattle.share_wiring.specs.Built.{IsBuilt, IsNew, IsNewPort, IsPortName, IsSmallRange, IsInnerName, IsInnerOrBit, IsAmong, bits_names}
+use Rattle.share_wiring.specs.Built.{IsBuilt, IsNew, IsNewPort, IsInnerName, IsInnerOrBit, bits_names}
 use Rattle.share_wiring.specs.Cells.{AddsCells}
+use Rattle.share_wiring.specs.Networks.{KeepsNetwork, FitsOrder}
 use Rattle.share_wiring.specs.Own.{upto, input_wires}
 use Rattle.share_wiring.specs.Shape.{Header, header_of}
 use Rattle.share_wiring.specs.Wiring.{Wiring, names, name_at, share}
@@ -96,6 +95,7 @@ none_entered range ns net = record {
   begun = refl;
   given = refl;
   cells = λ h. h;
+  network = λ d fits h. h;
   value = λ cycles bits run. (run, tt);
 }
 
@@ -110,8 +110,8 @@ module _ (range : Option Range) (ns : List (List ℕ)) (old now : Wiring) (k : �
 
   pub entered_more : (new : Wiring) (bits : List ℕ) → (bits ≡ range_with_len (length now.wires) (length (bit_names (row_of ns k) range)))
       → new ≡ record now { ports = now.ports ++ input_port range (row_of ns k) bits ∷ []; wires = now.wires ++ input_wires (bit_names (row_of ns k) range) }
-      → Extends now new → AddsFact now new (λ cycles bits. Unit {0}) → AddsCells now new → AreEntered range ns old new (k + 1) (rows ++ bits ∷ [])
-  entered_more new bits are made extends adds cells =
+      → Extends now new → AddsFact now new (λ cycles bits. Unit {0}) → AddsCells now new → ((d : ℕ) → FitsOrder d (row_of ns k) → KeepsNetwork d now new) → AreEntered range ns old new (k + 1) (rows ++ bits ∷ [])
+  entered_more new bits are made extends adds cells network =
       let count = before.count in
       let bns = bit_names (row_of ns k) range in
       let more = input_wires bns in
@@ -161,6 +161,7 @@ module _ (range : Option Range) (ns : List (List ℕ)) (old now : Wiring) (k : �
         begun = ap (λ (w : Wiring). w.gadgets) made ∙ before.begun;
         given = ap (λ (w : Wiring). w.given) made ∙ before.given;
         cells = λ h. cells (before.cells h);
+        network = λ d fits h. network d (fits k (omega arith)) (before.network d (λ i lt. fits i (omega (arith, lt))) h);
         value = λ cycles bit run. (let got = adds cycles bit run in before.value cycles bit got.0);
       }
     where

@@ -1,5 +1,5 @@
 -- What rows of shares recombine to, place by place.
-use Rattle.std.proofs.Common.{◌≡◌, ◌<◌, ◌≤◌, ◌+◌, ◌-◌, ◌++◌, ℕ, zero, suc, Bool, List, [], ◌∷◌, length, map, refl, sym, ap, ap₂, ◌∙◌, arith}
+use Rattle.std.proofs.Common.{◌≡◌, ◌<◌, ◌-◌, ℕ, zero, suc, Bool, List, [], ◌∷◌, length, map, refl, sym, ap, ap₂, ◌∙◌, arith}
 use Rattle.agm_net.specs.Formula.{xor}
 use Rattle.share_wiring.specs.Own.{upto}
 use Rattle.share_wiring.specs.Recombine.{xor_below, xor_rows, recombined_rows}

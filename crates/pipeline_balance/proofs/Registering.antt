@@ -1,23 +1,27 @@
 -- Registers that are held and closed.
-use Rattle.std.proofs.Common.{◌≡◌, ◌-◌, ◌≢◌, ◌<◌, ◌≤◌, ◌+◌, ◌++◌, ℕ, zero, suc, Bool, false, List, [], ◌∷◌, ◌⊎◌, get_or, length, length-append, take, drop, map, refl, sym, ap, ap₂, subst, subst₂, inl, inr, ◌∙◌, arith}
+use Rattle.std.proofs.Common.{◌≡◌, ◌-◌, ◌≢◌, ◌<◌, ◌≤◌, ◌+◌, ◌++◌, ℕ, zero, suc, Bool, false, List, [], ◌∷◌, ◌⊎◌, get_or, slice_set, length, length-append, take, drop, map, refl, sym, ap, ap₂, subst, subst₂, inl, inr, ◌∙◌, arith}
 use Rattle.std.proofs.lemmas.Bool.{cases_lt}
 use Rattle.std.proofs.lemmas.List.{take-append-drop, map-append}
 use Rattle.agm_net.specs.Label.{IsPublic, CountsAsShare}
-use Rattle.share_wiring.specs.Wiring.{Wiring, IsSharing, MayBeShare, IsPublicWire, names, source_at, share}
+use Rattle.share_wiring.specs.Wiring.{Wiring, MayBeShare, IsPublicWire, names, source_at, share}
 use Rattle.share_wiring.specs.Own.{closed_wires}
-use Rattle.share_wiring.specs.Adds.{Extends, AddsStep, AddsFact, AreHeld}
+use Rattle.share_wiring.specs.Adds.{Extends, AddsStep, AddsFact}
+use Rattle.share_wiring.specs.Cells.{IsCellSource, AreCells}
+use Rattle.share_wiring.specs.Networks.{KeepsNetwork}
 use Rattle.share_wiring.specs.declared.gate.Wire.{Wire}
 use Rattle.share_wiring.specs.declared.gate.Step.{Step}
 use Rattle.share_wiring.proofs.Grown.{source_front}
 use Rattle.share_wiring.proofs.OwnWires.{get-upto}
+use Rattle.share_wiring.proofs.Ruling.{stay_extends}
 use Rattle.share_wiring.proofs.Closing.{held_within, closed_names, closed_length, closed_other}
 use Rattle.std.proofs.Math.ListN.{get_or-map}
 use Rattle.pipeline_balance.specs.declared.values.Value.{Value}
 use Rattle.pipeline_balance.specs.declared.values.Value.TheVariants.{Public}
 use Rattle.pipeline_balance.specs.Shared.{Makes, Adds}
+use Rattle.pipeline_balance.specs.Sound.{KeepsSound}
 use Rattle.pipeline_balance.specs.Valued.{is_secret, size_of, wires_of, IsValue, signal, MakesValue}
-use Rattle.pipeline_balance.specs.Chained.{value_at, AreSources}
-use Rattle.pipeline_balance.specs.Registered.{IsHeld, Apart, AreRegisters, HeldFrom, Goes, OthersStay, IsChosen, AreClosed}
+use Rattle.pipeline_balance.specs.Chained.{value_at}
+use Rattle.pipeline_balance.specs.Registered.{AreOpen, IsHeld, Apart, AreRegisters, HeldFrom, Goes, OthersStay, IsChosen, AreClosed}
 use Rattle.pipeline_balance.proofs.Adding.{adds_none, adds_then, adds_so, adds_of, value_still}
 use Rattle.pipeline_balance.proofs.Chaining.{value_front, value_last}
 
@@ -28,14 +32,19 @@ step_is_fresh s n old new x y z adds i lt =
     omega (arith, at)
 
 -- what is held stays held where wires are added
-pub held_stays : (n : ℕ) (old new : Wiring) (z : List ℕ) → Extends old new → AreHeld n old.wires z → AreHeld n new.wires z
-held_stays n old new z extends are =
+pub held_stays : (n : ℕ) (old new : Wiring) (z : List ℕ) → Extends old new → AreOpen n old.wires z → AreOpen n new.wires z
+held_stays n old new z extends open_ones =
+    let are = open_ones.held in
+    let stay = stay_extends old new extends in
     let grown : new.wires ≡ old.wires ++ drop (length old.wires) new.wires = sym (take-append-drop (length old.wires) new.wires) ∙ ap (λ (ws : List Wire). ws ++ drop (length old.wires) new.wires) extends.wires in
     record {
-      held = λ i lt.
-          ap (λ ws. source_at ws (share z i)) grown
-          ∙ (source_front old.wires (drop (length old.wires) new.wires) (share z i) (held_within old.wires (share z i) (are.held i lt)) ∙ are.held i lt);
-      apart = are.apart;
+      held = record {
+        held = λ i lt.
+            ap (λ ws. source_at ws (share z i)) grown
+            ∙ (source_front old.wires (drop (length old.wires) new.wires) (share z i) (held_within old.wires (share z i) (are.held i lt)) ∙ are.held i lt);
+        apart = are.apart;
+      };
+      named = λ i lt. (let own = open_ones.named i lt in (own.0, own.1, stay.same (share z i) (held_within old.wires (share z i) (are.held i lt)) ∙ own.2));
     }
 
 -- ---- the loop that holds registers
@@ -44,7 +53,7 @@ pub record IsHolding (n : ℕ) (old now : Wiring) (initial : List (Value n)) (k 
   pub count : length held ≡ k
   pub registers : AreRegisters n now (take k initial) held
   pub all_held : HeldFrom n now 0 held
-  pub adds : Adds old now 0 0 (λ cycles bits. Unit {0})
+  pub adds : Adds n old now 0 0 (λ cycles bits. Unit {0})
 
 pub holding_begins : (n : ℕ) (net : Wiring) (initial held : List (Value n)) → held ≡ [] → IsHolding n net net initial 0 held
 holding_begins n net initial held e =
@@ -69,7 +78,7 @@ module _ (n : ℕ) (old now new : Wiring) (initial : List (Value n)) (k : ℕ) (
 
   -- the wires of earlier registers stand before
   old_wires : (r : ℕ) → r < length held → (j : ℕ) → j < size_of n (value_at held r) → share (wires_of (value_at held r)) j < length now.wires
-  old_wires r lt j below = held_within now.wires (share (wires_of (value_at held r)) j) ((holding.all_held r (omega arith) lt).held j below)
+  old_wires r lt j below = held_within now.wires (share (wires_of (value_at held r)) j) ((holding.all_held r (omega arith) lt).held.held j below)
 
   apart_last : (r : ℕ) → r < length held → Apart n (value_at held r) z
   apart_last r lt i j li lj e = let a = old_wires r lt i li in let b = fresh j lj in omega (arith, a, b, e)
@@ -118,6 +127,16 @@ may_names ws vs n i w e len h =
 public_names : (ws vs : List Wire) (w : ℕ) → names vs ≡ names ws → length vs ≡ length ws → IsPublicWire ws w → IsPublicWire vs w
 public_names ws vs w e len h = record { within = subst (λ m. w < m) (sym len) h.within; named = subst (λ ns. IsPublic (get_or ns w [])) (sym e) h.named }
 
+-- a register can be stated by the small form
+set_cells : (wires : List Wire) (w : ℕ) (x : Wire) → IsCellSource x.source → AreCells wires → AreCells (slice_set wires w x)
+set_cells [] w x own cells = tt
+set_cells (v ∷ vs) zero x own cells = (own, cells.1)
+set_cells (v ∷ vs) (suc w) x own cells = (cells.0, set_cells vs w x own cells.1)
+
+closed_cells : (n : ℕ) (held next : ℕ → ℕ) (wires : List Wire) → AreCells wires → AreCells (closed_wires n held next wires)
+closed_cells zero held next wires cells = cells
+closed_cells (suc n) held next wires cells = set_cells (closed_wires n held next wires) (held n) _ tt (closed_cells n held next wires cells)
+
 module _ (n : ℕ) (old mid new : Wiring) (held next : List ℕ) (extends : Extends old mid) (is : new ≡ record mid { wires = closed_wires n (share held) (share next) mid.wires }) where
   wires_are : new.wires ≡ closed_wires n (share held) (share next) mid.wires
   wires_are = ap (λ (w : Wiring). w.wires) is
@@ -128,8 +147,9 @@ module _ (n : ℕ) (old mid new : Wiring) (held next : List ℕ) (extends : Exte
   count_stays : length new.wires ≡ length mid.wires
   count_stays = ap (λ (ws : List Wire). length ws) wires_are ∙ closed_length (share held) (share next) mid.wires n
 
-  pub closing_goes : (fact : ℕ → (ℕ → ℕ → Bool) → Type 0) → mid.ports ≡ old.ports → mid.gadgets ≡ old.gadgets + 0 → mid.given ≡ old.given + 0 → AddsFact old new fact → Goes old new fact
-  closing_goes fact ports begun given value =
+  pub closing_goes : {s : ℕ} (fact : ℕ → (ℕ → ℕ → Bool) → Type 0) → mid.ports ≡ old.ports → mid.gadgets ≡ old.gadgets + 0 → mid.given ≡ old.given + 0 → KeepsSound s old mid → KeepsNetwork (s - 1) mid new → AddsFact old new fact
+      → Goes s old new fact
+  closing_goes fact ports begun given sound network value =
       let count = count_stays in
       let grown = extends.count in
       record {
@@ -139,6 +159,7 @@ module _ (n : ℕ) (old mid new : Wiring) (held next : List ℕ) (extends : Exte
         ports = ap (λ (w : Wiring). w.ports) is ∙ ports;
         begun = (let same = ap (λ (w : Wiring). w.gadgets) is in omega (arith, same, begun));
         given = (let same = ap (λ (w : Wiring). w.given) is in omega (arith, same, given));
+        sound = λ h. (let got = sound h in record { cells = subst AreCells (sym wires_are) (closed_cells n (share held) (share next) mid.wires got.cells); network = network got.network });
         value = value;
       }
 
@@ -146,13 +167,16 @@ module _ (n : ℕ) (old mid new : Wiring) (held next : List ℕ) (extends : Exte
   closing_others m z are apart =
       let before = held_stays m old mid z extends are in
       record {
-        held = λ i lt.
-            ap (λ ws. source_at ws (share z i)) wires_are ∙ (closed_other (share held) (share next) mid.wires n (share z i) (λ j below. apart i j lt below) ∙ before.held i lt);
-        apart = before.apart;
+        held = record {
+          held = λ i lt.
+              ap (λ ws. source_at ws (share z i)) wires_are ∙ (closed_other (share held) (share next) mid.wires n (share z i) (λ j below. apart i j lt below) ∙ before.held.held i lt);
+          apart = before.held.apart;
+        };
+        named = λ i lt. (let own = before.named i lt in (own.0, own.1, ap (λ ns. get_or ns (share z i) []) names_stay ∙ own.2));
       }
 
 -- calls that add wires, and then calls that may close some
-pub goes_behind : (old mid new : Wiring) (n : ℕ) (z : List ℕ) (first second : ℕ → (ℕ → ℕ → Bool) → Type 0) → Makes old mid n 0 0 z first → Goes mid new second → Goes old new (λ cycles bits. first cycles bits × second cycles bits)
+pub goes_behind : {s : ℕ} (old mid new : Wiring) (n : ℕ) (z : List ℕ) (first second : ℕ → (ℕ → ℕ → Bool) → Type 0) → Makes s old mid n 0 0 z first → Goes s mid new second → Goes s old new (λ cycles bits. first cycles bits × second cycles bits)
 goes_behind old mid new n z first second a b =
     let count_a = a.extends.count in
     let count_b = b.count in
@@ -167,19 +191,20 @@ goes_behind old mid new n z first second a b =
       ports = b.ports ∙ a.ports;
       begun = omega arith;
       given = omega arith;
+      sound = λ h. b.sound (a.sound h);
       value = λ cycles bits run. (let last = b.value cycles bits run in let before = a.value cycles bits last.0 in (before.0, (before.1, last.1)));
     }
 
-pub goes_so : (old new : Wiring) (fact other : ℕ → (ℕ → ℕ → Bool) → Type 0) → ((cycles : ℕ) (bits : ℕ → ℕ → Bool) → fact cycles bits → other cycles bits) → Goes old new fact → Goes old new other
+pub goes_so : {s : ℕ} (old new : Wiring) (fact other : ℕ → (ℕ → ℕ → Bool) → Type 0) → ((cycles : ℕ) (bits : ℕ → ℕ → Bool) → fact cycles bits → other cycles bits) → Goes s old new fact → Goes s old new other
 goes_so old new fact other follows a =
-    record { count = a.count; shares = a.shares; publics = a.publics; ports = a.ports; begun = a.begun; given = a.given; value = λ cycles bits run. (let got = a.value cycles bits run in (got.0, follows cycles bits got.1)) }
+    record { count = a.count; shares = a.shares; publics = a.publics; ports = a.ports; begun = a.begun; given = a.given; sound = a.sound; value = λ cycles bits run. (let got = a.value cycles bits run in (got.0, follows cycles bits got.1)) }
 
 -- ---- the loop that closes registers
 
-goes_none : (net : Wiring) (fact : ℕ → (ℕ → ℕ → Bool) → Type 0) → ((cycles : ℕ) (bits : ℕ → ℕ → Bool) → fact cycles bits) → Goes net net fact
-goes_none net fact h = record { count = omega arith; shares = λ n i w x. x; publics = λ w x. x; ports = refl; begun = refl; given = refl; value = λ cycles bits run. (run, h cycles bits) }
+goes_none : {s : ℕ} (net : Wiring) (fact : ℕ → (ℕ → ℕ → Bool) → Type 0) → ((cycles : ℕ) (bits : ℕ → ℕ → Bool) → fact cycles bits) → Goes s net net fact
+goes_none net fact h = record { count = omega arith; shares = λ n i w x. x; publics = λ w x. x; ports = refl; begun = refl; given = refl; sound = λ h. h; value = λ cycles bits run. (run, h cycles bits) }
 
-goes_then : (old mid new : Wiring) (first second : ℕ → (ℕ → ℕ → Bool) → Type 0) → Goes old mid first → Goes mid new second → Goes old new (λ cycles bits. first cycles bits × second cycles bits)
+goes_then : {s : ℕ} (old mid new : Wiring) (first second : ℕ → (ℕ → ℕ → Bool) → Type 0) → Goes s old mid first → Goes s mid new second → Goes s old new (λ cycles bits. first cycles bits × second cycles bits)
 goes_then old mid new first second a b =
     let count_a = a.count in
     let count_b = b.count in
@@ -190,10 +215,11 @@ goes_then old mid new first second a b =
       ports = b.ports ∙ a.ports;
       begun = b.begun ∙ a.begun;
       given = b.given ∙ a.given;
+      sound = λ h. b.sound (a.sound h);
       value = λ cycles bits run. (let last = b.value cycles bits run in let before = a.value cycles bits last.0 in (before.0, (before.1, last.1)));
     }
 
-pub value_goes : (n : ℕ) (old now : Wiring) (fact : ℕ → (ℕ → ℕ → Bool) → Type 0) (v : Value n) → Goes old now fact → IsValue n old v → IsValue n now v
+pub value_goes : {s : ℕ} (n : ℕ) (old now : Wiring) (fact : ℕ → (ℕ → ℕ → Bool) → Type 0) (v : Value n) → Goes s old now fact → IsValue n old v → IsValue n now v
 value_goes n old now fact v goes inside i lt = goes.shares (size_of n v) i (share (wires_of v) i) (inside i lt)
 
 source_kind : (n : ℕ) (values : List (Value n)) (i : ℕ) → get_or (map is_secret values) i false ≡ is_secret (value_at values i)
@@ -208,7 +234,7 @@ module _ (n : ℕ) (old now : Wiring) (load : ℕ) (initial held nexts : List (V
   closed_begins are = record { open_ones = are; goes = goes_none old _ (λ cycles bits r lt. absurd (omega arith)) }
 
   pub closed_more : (new : Wiring) (k : ℕ) → AreRegisters n old initial held → k < length held → AreClosed n old now load initial held nexts k
-      → Goes now new (λ cycles bits. IsChosen cycles bits load (signal n bits (value_at held k)) (signal n bits (value_at initial k)) (signal n bits (value_at nexts k)))
+      → Goes n now new (λ cycles bits. IsChosen cycles bits load (signal n bits (value_at held k)) (signal n bits (value_at initial k)) (signal n bits (value_at nexts k)))
       → OthersStay now new (size_of n (value_at held k)) (wires_of (value_at held k)) → AreClosed n old new load initial held nexts (k + 1)
   closed_more new k registers below closed goes others = record {
     open_ones = λ r le lt.
@@ -224,10 +250,10 @@ module _ (n : ℕ) (old now : Wiring) (load : ℕ) (initial held nexts : List (V
   -- the same, of values that were read
   pub closed_read : (new : Wiring) (k : ℕ) (first register next : Value n) → first ≡ value_at initial k → register ≡ value_at held k → next ≡ value_at nexts k
       → AreRegisters n old initial held → k < length held → AreClosed n old now load initial held nexts k
-      → Goes now new (λ cycles bits. IsChosen cycles bits load (signal n bits register) (signal n bits first) (signal n bits next))
+      → Goes n now new (λ cycles bits. IsChosen cycles bits load (signal n bits register) (signal n bits first) (signal n bits next))
       → OthersStay now new (size_of n register) (wires_of register) → AreClosed n old new load initial held nexts (k + 1)
   closed_read new k first register next e f g registers below closed goes others =
       closed_more new k registers below closed
-      (subst (λ v. Goes now new (λ cycles bits. IsChosen cycles bits load (signal n bits v) (signal n bits (value_at initial k)) (signal n bits (value_at nexts k)))) f
-      (subst₂ (λ u w. Goes now new (λ cycles bits. IsChosen cycles bits load (signal n bits register) (signal n bits u) (signal n bits w))) e g goes))
+      (subst (λ v. Goes n now new (λ cycles bits. IsChosen cycles bits load (signal n bits v) (signal n bits (value_at initial k)) (signal n bits (value_at nexts k)))) f
+      (subst₂ (λ u w. Goes n now new (λ cycles bits. IsChosen cycles bits load (signal n bits register) (signal n bits u) (signal n bits w))) e g goes))
       (subst (λ v. OthersStay now new (size_of n v) (wires_of v)) f others)

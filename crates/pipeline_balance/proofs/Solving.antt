@@ -7,7 +7,8 @@ use Rattle.logic_graph.specs.Nodes.{xan_reads_before}
 use Rattle.logic_graph.specs.declared.nodes.XanNode.{XanNode}
 use Rattle.logic_graph.specs.declared.nodes.XanNode.TheVariants.{Zero, One, Input, Q, Not, Xor, And}
 use Rattle.logic_graph.specs.Machines.{Solves, xan_value}
-use Rattle.pipeline_balance.specs.Machines.{Machine, IsMachine, IsMachineRun, has_source, out_node, next_node}
+use Rattle.level_plan.specs.Passes.{has_source}
+use Rattle.pipeline_balance.specs.Machines.{Machine, IsMachine, IsMachineRun, out_node, next_node}
 use Rattle.pipeline_balance.specs.Signals.{Signal, Carries, selected}
 use Rattle.pipeline_balance.specs.Pipelines.{Signals, IsJoined, IsGadget, IsMade, IsPipeline, IsDriven, input_cycle}
 

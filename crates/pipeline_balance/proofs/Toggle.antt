@@ -6,7 +6,8 @@ use Rattle.agm_net.specs.Formula.{xor}
 use Rattle.logic_graph.specs.Nodes.{xan_reads_before}
 use Rattle.logic_graph.specs.declared.nodes.XanNode.{XanNode}
 use Rattle.logic_graph.specs.declared.nodes.XanNode.TheVariants.{Input, Q, Xor, And}
-use Rattle.pipeline_balance.specs.Machines.{IsMachine, has_source, out_node, next_node}
+use Rattle.level_plan.specs.Passes.{has_source}
+use Rattle.pipeline_balance.specs.Machines.{IsMachine, out_node, next_node}
 use Rattle.pipeline_balance.specs.Signals.{Signal, Carries, Products}
 use Rattle.pipeline_balance.specs.Pipelines.{Signals, IsJoined, IsGadget, IsMade, IsClosed, IsPipeline, IsDriven, input_cycle}
 use Rattle.pipeline_balance.specs.Toggle.{toggle, toggle_level, delayed, product, stages, toggle_signals, fed, driven_toggle}

@@ -1,13 +1,13 @@
 -- Nodes of a graph as chains of values, one for each level at which a node is read.
-use Rattle.std.specs.Prelude.{◌≡◌, ◌<◌, ◌≤◌, ◌+◌, ◌-◌, ◌*◌, ◌/◌, ℕ, Bool, true, false, ◌&&◌, ◌||◌, cond, List, [], length, take, sum_by, slice_get, slice_index_or, Some, IsTrue, nat_lt}
+use Rattle.std.specs.Prelude.{◌≡◌, ◌<◌, ◌≤◌, ◌+◌, ◌-◌, ◌*◌, ◌/◌, ℕ, Bool, false, ◌&&◌, ◌||◌, cond, List, [], length, take, sum_by, slice_get, slice_index_or, Some, IsTrue}
 use Rattle.logic_graph.specs.declared.nodes.XanNode.{XanNode}
 use Rattle.logic_graph.specs.declared.nodes.XanNode.TheVariants.{Zero, One, Input, Q, Not, Xor, And}
 use Rattle.share_wiring.specs.Wiring.{Wiring}
 use Rattle.pipeline_balance.specs.declared.values.Value.{Value}
-use Rattle.pipeline_balance.specs.declared.values.Value.TheVariants.{Public, Secret}
+use Rattle.pipeline_balance.specs.declared.values.Value.TheVariants.{Public}
 use Rattle.pipeline_balance.specs.declared.chains.Chain.{Chain}
 use Rattle.pipeline_balance.specs.declared.chains.Layout.{Layout}
-use Rattle.pipeline_balance.specs.Machines.{has_source}
+use Rattle.level_plan.specs.Passes.{has_source}
 use Rattle.pipeline_balance.specs.Signals.{Carries}
 use Rattle.pipeline_balance.specs.Pipelines.{Signals, IsMade}
 use Rattle.pipeline_balance.specs.Shared.{Places, placed, Adds}
@@ -178,5 +178,5 @@ gadgets_before secret nodes k = sum_by (gadgets_in secret) (take k nodes)
 pub record IsFilled (n : ℕ) (nodes : List XanNode) (inputs registers : List (Value n)) (layout : Layout) (old now : Wiring) (k : ℕ) (table : List (Chain n)) : Type 0 where
   pub count : length table ≡ k
   pub chains : AreChains n now (secret_at layout) (first_at layout) (last_at layout) table
-  pub adds : Adds old now (gadgets_before (secret_at layout) nodes k) (gadgets_before (secret_at layout) nodes k * (n * (n - 1) / 2))
+  pub adds : Adds n old now (gadgets_before (secret_at layout) nodes k) (gadgets_before (secret_at layout) nodes k * (n * (n - 1) / 2))
       (λ cycles bits. AreCarried n table cycles bits × NodesMade n nodes inputs registers table cycles bits)

@@ -1,6 +1,7 @@
 pub mod Machines
 pub mod Signals
 pub mod Pipelines
+pub mod Sound
 pub mod Shared
 pub mod Originals
 pub mod Masked
@@ -14,3 +15,11 @@ pub mod Registered
 pub mod Piped
 pub mod Reaching
 pub mod Ports
+pub mod Apart
+pub mod Entered
+pub mod LedOut
+pub mod Reporting
+pub mod Ready
+pub mod Sublists
+pub mod Entering
+pub mod Leaving

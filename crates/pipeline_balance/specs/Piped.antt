@@ -1,11 +1,12 @@
 -- The pipeline of a machine, as a builder has it.
-use Rattle.std.specs.Prelude.{◌≡◌, ◌<◌, ◌≤◌, ◌+◌, ◌*◌, ◌/◌, ◌-◌, ℕ, Bool, false, List, ◌++◌, length, slice_index_or}
+use Rattle.std.specs.Prelude.{◌≡◌, ◌<◌, ◌≤◌, ◌+◌, ◌*◌, ◌/◌, ◌-◌, ℕ, Bool, List, ◌++◌, length, slice_index_or}
 use Rattle.logic_graph.specs.declared.nodes.XanNode.{XanNode}
 use Rattle.share_wiring.specs.Wiring.{Wiring, MayBeShare, IsPublicWire}
 use Rattle.share_wiring.specs.Adds.{AddsFact}
 use Rattle.pipeline_balance.specs.declared.values.Value.{Value}
 use Rattle.pipeline_balance.specs.declared.chains.Layout.{Layout}
 use Rattle.pipeline_balance.specs.Machines.{Machine}
+use Rattle.pipeline_balance.specs.Sound.{KeepsSound}
 use Rattle.pipeline_balance.specs.Signals.{Signal}
 use Rattle.pipeline_balance.specs.Pipelines.{Signals, IsPipeline}
 use Rattle.pipeline_balance.specs.Valued.{signal}
@@ -35,7 +36,7 @@ built_signals n inputs initial outputs load bits node state = record {
 }
 
 -- Calls that make the pipeline of a machine: every run of the new net is a run of the pipeline, with some levels and some signals of
--- nodes and of registers. The outputs are values, and what may be a share still may be one.
+-- nodes and of registers. The outputs are values, what may be a share still may be one, and the net stays sound.
 pub record MakesPipeline (n : ℕ) (old now : Wiring) (m : Machine) (depth gadgets : ℕ) (inputs initial : List (Value n)) (load : ℕ) (outputs : List (Value n)) : Type 0 where
   pub level : ℕ → ℕ
   pub node : (ℕ → ℕ → Bool) → ℕ → Signal
@@ -48,3 +49,4 @@ pub record MakesPipeline (n : ℕ) (old now : Wiring) (m : Machine) (depth gadge
   pub ports : now.ports ≡ old.ports
   pub begun : now.gadgets ≡ old.gadgets + gadgets
   pub given : now.given ≡ old.given + gadgets * (n * (n - 1) / 2)
+  pub sound : KeepsSound n old now

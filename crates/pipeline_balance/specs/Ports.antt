@@ -9,6 +9,7 @@ use Rattle.agm_net.specs.declared.port.Way.TheVariants.{Input}
 use Rattle.share_wiring.specs.Adds.{Extends, AddsFact}
 use Rattle.share_wiring.specs.Built.{IsNew, IsPortName, IsSmallRange}
 use Rattle.share_wiring.specs.Cells.{AddsCells}
+use Rattle.share_wiring.specs.Networks.{KeepsNetwork, FitsOrder}
 use Rattle.share_wiring.specs.Own.{upto}
 use Rattle.share_wiring.specs.Shape.{Header}
 use Rattle.share_wiring.specs.Wiring.{Wiring, name_at, share}
@@ -46,7 +47,8 @@ input_ports range names rows k = upto k (λ i. input_port range (row_of names i)
 abbrev pub FitOneByOne : List Header → Option Range → List (List ℕ) → Type 0
 FitOneByOne olds range names = (k : ℕ) → k < length names → FitsBeside (olds ++ upto k (λ i. input_header range (row_of names i))) (input_header range (row_of names k))
 
--- The first k input ports of these names were made and stand last; row i has the wires of port i.
+-- The first k input ports of these names were made and stand last; row i has the wires of port i. A network of an order in which the
+-- names may stand stays one.
 pub record AreEntered (range : Option Range) (names : List (List ℕ)) (old now : Wiring) (k : ℕ) (rows : List (List ℕ)) : Type 0 where
   pub count : length rows ≡ k
   pub extends : Extends old now
@@ -57,6 +59,7 @@ pub record AreEntered (range : Option Range) (names : List (List ℕ)) (old now 
   pub begun : now.gadgets ≡ old.gadgets
   pub given : now.given ≡ old.given
   pub cells : AddsCells old now
+  pub network : (d : ℕ) → ((i : ℕ) → i < k → FitsOrder d (row_of names i)) → KeepsNetwork d old now
   pub value : AddsFact old now (λ cycles bits. Unit {0})
 
 -- the value of a public wire

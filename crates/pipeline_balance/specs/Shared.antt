@@ -2,9 +2,9 @@
 use Rattle.std.specs.Prelude.{◌≡◌, ◌<◌, ◌+◌, ℕ, Bool, List}
 use Rattle.share_wiring.specs.Wiring.{Wiring, IsSharing}
 use Rattle.share_wiring.specs.Adds.{recombined, Extends, AddsFact}
-use Rattle.share_wiring.specs.Cells.{AddsCells}
 use Rattle.pipeline_balance.specs.Signals.{Signal}
 use Rattle.pipeline_balance.specs.Pipelines.{Signals}
+use Rattle.pipeline_balance.specs.Sound.{KeepsSound}
 
 -- what n shares recombine to in each cycle; a public wire is a sharing of one share
 abbrev pub shared : ℕ → (ℕ → ℕ → Bool) → List ℕ → Signal
@@ -26,22 +26,22 @@ pub record Agree (bound : ℕ) (p q : Places) : Type 0 where
 abbrev pub placed : (ℕ → ℕ → Bool) → Places → Signals → Signals
 placed bits p s = record { node = λ k. shared (p.size k) bits (p.shares k); given = s.given; state = s.state; initial = s.initial; load = s.load; output = s.output }
 
--- What calls do that make a sharing: earlier wires and ports stay, so many gadgets are begun and so many random bits given, and each
--- trace of the new net is one of the old net and keeps a fact.
-pub record Makes (old now : Wiring) (n gadgets random : ℕ) (z : List ℕ) (fact : ℕ → (ℕ → ℕ → Bool) → Type 0) : Type 0 where
+-- What calls do that make a sharing, in a net on s shares: earlier wires and ports stay, so many gadgets are begun and so many random
+-- bits given, the net stays sound, and each trace of the new net is one of the old net and keeps a fact.
+pub record Makes (s : ℕ) (old now : Wiring) (n gadgets random : ℕ) (z : List ℕ) (fact : ℕ → (ℕ → ℕ → Bool) → Type 0) : Type 0 where
   pub extends : Extends old now
   pub ports : now.ports ≡ old.ports
   pub begun : now.gadgets ≡ old.gadgets + gadgets
   pub given : now.given ≡ old.given + random
-  pub cells : AddsCells old now
+  pub sound : KeepsSound s old now
   pub shares : IsSharing now.wires n z
   pub value : AddsFact old now fact
 
 -- The same of calls, whatever they make.
-pub record Adds (old now : Wiring) (gadgets random : ℕ) (fact : ℕ → (ℕ → ℕ → Bool) → Type 0) : Type 0 where
+pub record Adds (s : ℕ) (old now : Wiring) (gadgets random : ℕ) (fact : ℕ → (ℕ → ℕ → Bool) → Type 0) : Type 0 where
   pub extends : Extends old now
   pub ports : now.ports ≡ old.ports
   pub begun : now.gadgets ≡ old.gadgets + gadgets
   pub given : now.given ≡ old.given + random
-  pub cells : AddsCells old now
+  pub sound : KeepsSound s old now
   pub value : AddsFact old now fact

@@ -28,7 +28,7 @@ signal n bits v = shared (size_of n v) bits (wires_of v)
 
 -- what calls do that make a value
 abbrev pub MakesValue : Wiring → Wiring → (n gadgets random : ℕ) → Value n → (ℕ → (ℕ → ℕ → Bool) → Type 0) → Type 0
-MakesValue old now n gadgets random v fact = Makes old now (size_of n v) gadgets random (wires_of v) fact
+MakesValue old now n gadgets random v fact = Makes n old now (size_of n v) gadgets random (wires_of v) fact
 
 -- z is x in each cycle
 abbrev pub Equals : ℕ → (x z : Signal) → Type 0

@@ -49,7 +49,7 @@ pub fn make_chain<const S: usize>(
     requires levels { level ≤ last }
     ensures chain { IfOk result (λ c. IsChain S builder.new (is_secret_value value.now) level last c) }
     ensures first { IfOk result (λ c. stage c 0 ≡ value.now) }
-    ensures adds { IfOk result (λ c. Adds builder.old builder.new 0 0 (IsCarried S c)) }
+    ensures adds { IfOk result (λ c. Adds S builder.old builder.new 0 0 (IsCarried S c)) }
 {
     let mut stages = List::new(builder.alloc());
     stages.push(*value)?;

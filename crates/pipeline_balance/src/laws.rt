@@ -33,7 +33,8 @@ ghost use Rattle.pipeline_balance.specs.Piped.{node_at, ReachDepth};
 ghost use Rattle.pipeline_balance.specs.Reaching.{flag_at, FitsLevels, AreReached};
 ghost use Rattle.pipeline_balance.specs.Signals.{Signal, Carries, Joins, Products, selected};
 ghost use Rattle.pipeline_balance.specs.Shared.{shared, Places, Agree, placed};
-ghost use Rattle.pipeline_balance.specs.Machines.{has_source, Machine, IsMachine, IsMachineRun, out_node};
+ghost use Rattle.level_plan.specs.Passes.{has_source};
+ghost use Rattle.pipeline_balance.specs.Machines.{Machine, IsMachine, IsMachineRun, out_node};
 ghost use Rattle.pipeline_balance.specs.Pipelines.{Signals, IsJoined, IsGadget, IsMade, IsPipeline, IsDriven, input_cycle};
 
 /// A law: the outputs of a driven pipeline are, in the cycle in which they are read, those of the machine's run.

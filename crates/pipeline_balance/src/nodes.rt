@@ -217,7 +217,7 @@ fn next_chain<const S: usize>(
     requires random { builder.old.given + gadgets_in (kind_at table.now) kind * (S * (S - 1) / 2) ≤ length (random_bits builder.old.ports) }
     requires gadgets { builder.old.gadgets + gadgets_in (kind_at table.now) kind ≤ 2 ^ 32 }
     ensures chain { IfOk result (IsChain S builder.new (node_kind (λ i. is_secret_value (value_at inputs.now i)) (λ r. is_secret_value (value_at registers.now r)) (kind_at table.now) kind) level last) }
-    ensures adds { IfOk result (λ c. Adds builder.old builder.new (gadgets_in (kind_at table.now) kind) (gadgets_in (kind_at table.now) kind * (S * (S - 1) / 2)) (λ cycles bits. MakesNode S inputs.now registers.now table.now kind level (stage c 0) cycles bits × IsCarried S c cycles bits)) }
+    ensures adds { IfOk result (λ c. Adds S builder.old builder.new (gadgets_in (kind_at table.now) kind) (gadgets_in (kind_at table.now) kind * (S * (S - 1) / 2)) (λ cycles bits. MakesNode S inputs.now registers.now table.now kind level (stage c 0) cycles bits × IsCarried S c cycles bits)) }
 {
     let value = make_node(builder, inputs, registers, table, kind, level, late_first)?;
     let made = make_chain(builder, &value, level, last)?;

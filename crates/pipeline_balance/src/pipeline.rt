@@ -61,7 +61,8 @@ pub fn make_pipeline<const S: usize>(
     requires public { (r : ℕ) → r < length nexts.now → is_secret_value (value_at firsts.now r) ≡ false → secret_at layout.now (node_at nexts.now r) ≡ false }
     requires random { builder.old.given + gadgets_before (secret_at layout.now) graph.now (length graph.now) * (S * (S - 1) / 2) ≤ length (random_bits builder.old.ports) }
     requires gadgets { builder.old.gadgets + gadgets_before (secret_at layout.now) graph.now (length graph.now) ≤ 2 ^ 32 }
-    ensures { IfOk result (MakesPipeline S builder.old builder.new (machine_of graph.now (length inputs.now) outputs.now nexts.now) depth (gadgets_before (secret_at layout.now) graph.now (length graph.now)) inputs.now firsts.now load) }
+    ensures pipeline { IfOk result (MakesPipeline S builder.old builder.new (machine_of graph.now (length inputs.now) outputs.now nexts.now) depth (gadgets_before (secret_at layout.now) graph.now (length graph.now)) inputs.now firsts.now load) }
+    ensures kinds { IfOk result (λ values. (o : ℕ) → o < length outputs.now → is_secret_value (value_at values o) ≡ secret_at layout.now (node_at outputs.now o)) }
 {
     let held = hold_registers(builder, firsts)?;
     let table = make_nodes(builder, inputs, held.as_slice(), graph, layout)?;

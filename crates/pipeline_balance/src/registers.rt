@@ -1,14 +1,13 @@
 //! Registers, which are held while nodes are made and closed behind them.
 
-ghost use Rattle.std.specs.Prelude.{◌≡◌, ◌<◌, ◌≤◌, ◌+◌, ℕ, List, length, map, false, IfOk, OnOk};
+ghost use Rattle.std.specs.Prelude.{◌≡◌, ◌<◌, ◌≤◌, ◌+◌, ◌-◌, ℕ, List, length, map, false, IfOk, OnOk};
 ghost use Rattle.share_wiring.specs.Wiring.{IsSharing, IsPublicWire, share};
 ghost use Rattle.pipeline_balance.specs.declared.values.Value.TheVariants as value;
 ghost use Rattle.pipeline_balance.specs.Signals.{selected};
 ghost use Rattle.pipeline_balance.specs.Shared.{shared, Makes, Adds};
 ghost use Rattle.pipeline_balance.specs.Valued.{is_secret as is_secret_value, size_of, wires_of, IsValue, signal, MakesValue};
-ghost use Rattle.share_wiring.specs.Adds.{AreHeld};
 ghost use Rattle.pipeline_balance.specs.Chained.{value_at, AreSources};
-ghost use Rattle.pipeline_balance.specs.Registered.{IsHeld, AreRegisters, HeldFrom, Goes, IsChosen, OthersStay, AreClosed};
+ghost use Rattle.pipeline_balance.specs.Registered.{AreOpen, IsHeld, AreRegisters, HeldFrom, Goes, IsChosen, OthersStay, AreClosed};
 
 use crate::nodes::source_value;
 use crate::values::{Value, secret_of};
@@ -43,7 +42,7 @@ pub fn hold_registers<const S: usize>(
     requires size { (0 < S) × (S ≤ 16) }
     ensures registers { IfOk result (AreRegisters S builder.new likes.now) }
     ensures held { IfOk result (HeldFrom S builder.new 0) }
-    ensures adds { OnOk result (Adds builder.old builder.new 0 0 (λ cycles bits. Unit {0})) }
+    ensures adds { OnOk result (Adds S builder.old builder.new 0 0 (λ cycles bits. Unit {0})) }
 {
     let mut held = List::new(builder.alloc());
     for k in 0..likes.len() {
@@ -65,7 +64,7 @@ fn selection<const S: usize>(
     requires initial { IsSharing builder.old.wires S initial.now.shares }
     requires late { IsSharing builder.old.wires S late.now.shares }
     requires size { (0 < S) × (S ≤ 16) }
-    ensures { IfOk result (λ z. Makes builder.old builder.new S 0 0 z.shares (λ cycles bits. (t : ℕ) → t < cycles → shared S bits z.shares t ≡ selected (bits t load) (shared S bits initial.now.shares t) (shared S bits late.now.shares t))) }
+    ensures { IfOk result (λ z. (s : ℕ) → S ≤ s - 1 + 1 → Makes s builder.old builder.new S 0 0 z.shares (λ cycles bits. (t : ℕ) → t < cycles → shared S bits z.shares t ≡ selected (bits t load) (shared S bits initial.now.shares t) (shared S bits late.now.shares t))) }
 {
     let difference = builder.xor(late, initial)?;
     let masked = builder.and_public(load, &difference)?;
@@ -83,10 +82,10 @@ fn close_shares<const S: usize>(
 ) -> Result<(), Memory>
     requires load { IsPublicWire builder.old.wires load }
     requires initial { IsSharing builder.old.wires S initial.now.shares }
-    requires held { AreHeld S builder.old.wires held.now.shares }
+    requires held { AreOpen S builder.old.wires held.now.shares }
     requires late { IsSharing builder.old.wires S late.now.shares }
     requires size { (0 < S) × (S ≤ 16) }
-    ensures goes { OnOk result (Goes builder.old builder.new (λ cycles bits. IsChosen cycles bits load (shared S bits held.now.shares) (shared S bits initial.now.shares) (shared S bits late.now.shares))) }
+    ensures goes { OnOk result ((s : ℕ) → S ≤ s - 1 + 1 → Goes s builder.old builder.new (λ cycles bits. IsChosen cycles bits load (shared S bits held.now.shares) (shared S bits initial.now.shares) (shared S bits late.now.shares))) }
     ensures others { OnOk result (OthersStay builder.old builder.new S held.now.shares) }
 {
     let chosen = selection(builder, load, initial, late)?;
@@ -104,10 +103,10 @@ fn close_secret<const S: usize>(
 ) -> Result<(), Memory>
     requires load { IsPublicWire builder.old.wires load }
     requires initial { IsValue S builder.old initial.now }
-    requires held { AreHeld S builder.old.wires held.now.shares }
+    requires held { AreOpen S builder.old.wires held.now.shares }
     requires next { IsValue S builder.old next.now }
     requires size { (0 < S) × (S ≤ 16) }
-    ensures goes { OnOk result (Goes builder.old builder.new (λ cycles bits. IsChosen cycles bits load (shared S bits held.now.shares) (signal S bits initial.now) (signal S bits next.now))) }
+    ensures goes { OnOk result (Goes S builder.old builder.new (λ cycles bits. IsChosen cycles bits load (shared S bits held.now.shares) (signal S bits initial.now) (signal S bits next.now))) }
     ensures others { OnOk result (OthersStay builder.old builder.new S held.now.shares) }
 {
     let first = secret_of(builder, initial)?;
@@ -116,8 +115,8 @@ fn close_secret<const S: usize>(
     Ok(())
 }
 
-// The wire of a public value.
-fn public_of<const S: usize>(x: &Value<S>) -> Sharing<1>
+/// The wire of a public value.
+pub fn public_of<const S: usize>(x: &Value<S>) -> Sharing<1>
     requires { is_secret_value x.now ≡ false }
     ensures { x.now ≡ value.Public result }
 {
@@ -141,7 +140,7 @@ fn close_register<const S: usize>(
     requires next { IsValue S builder.old next.now }
     requires kind { is_secret_value held.now ≡ false → (is_secret_value initial.now ≡ false) × (is_secret_value next.now ≡ false) }
     requires size { (0 < S) × (S ≤ 16) }
-    ensures goes { OnOk result (Goes builder.old builder.new (λ cycles bits. IsChosen cycles bits load (signal S bits held.now) (signal S bits initial.now) (signal S bits next.now))) }
+    ensures goes { OnOk result (Goes S builder.old builder.new (λ cycles bits. IsChosen cycles bits load (signal S bits held.now) (signal S bits initial.now) (signal S bits next.now))) }
     ensures others { OnOk result (OthersStay builder.old builder.new (size_of S held.now) (wires_of held.now)) }
 {
     match *held {

@@ -43,7 +43,7 @@ pub fn constant<const S: usize>(builder: &mut Builder, bit: bool) -> Result<Valu
 pub fn secret_of<const S: usize>(builder: &mut Builder, x: &Value<S>) -> Result<Sharing<S>, Memory>
     requires size { (0 < S) × (S ≤ 16) }
     requires value { IsValue S builder.old x.now }
-    ensures { IfOk result (λ z. Makes builder.old builder.new S 0 0 z.shares (λ cycles bits. Equals cycles (signal S bits x.now) (shared S bits z.shares))) }
+    ensures { IfOk result (λ z. Makes S builder.old builder.new S 0 0 z.shares (λ cycles bits. Equals cycles (signal S bits x.now) (shared S bits z.shares))) }
 {
     match *x {
         Value::Public(wire) => {

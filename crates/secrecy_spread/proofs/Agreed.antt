@@ -55,7 +55,7 @@ found_two at f x y is left right h = elim (or_cases (secret_in at x) (secret_in 
   | inr two ↦ (let r = right two in (r.0, is r.0 ∙ or_right (stands r.0 x) (stands r.0 y) r.1, r.2))
 ]
 
-found_in : (at : ℕ → Bool) (f : Formula) → IsTrue (secret_in at f) → Found at f
+pub found_in : (at : ℕ → Bool) (f : Formula) → IsTrue (secret_in at f) → Found at f
 found_in at f_zero h = absurd (cc)
 found_in at f_one h = absurd (cc)
 found_in at (f_wire u) h = (u, eq-eqb u u refl, h)
@@ -87,7 +87,7 @@ in_formula at (f_mux s x y) v is h = elim (or_cases (stands v s) (stands v x || 
   | inr two ↦ or_right (secret_in at s) (secret_in at x || secret_in at y) (in_two at x y v (in_formula at x v is) (in_formula at y v is) two)
 ]
 
-same_bool : (a b : Bool) → (IsTrue a → IsTrue b) → (IsTrue b → IsTrue a) → a ≡ b
+pub same_bool : (a b : Bool) → (IsTrue a → IsTrue b) → (IsTrue b → IsTrue a) → a ≡ b
 same_bool true b f g = sym (f refl)
 same_bool false true f g = g refl
 same_bool false false f g = refl
@@ -99,7 +99,7 @@ same_in x y f same = same_bool (secret_in x f) (secret_in y f)
     (λ h. (let l = found_in y f h in in_formula x f l.0 (same l.0 l.1 ∙ l.2) l.1))
 
 -- a node that stands for a formula is secret where a secret wire stands in the formula
-stood_secret : (g : Graph) (inputs registers flags : List Bool) → AreNodeSecrets g.nodes inputs registers flags → (f : Formula) (m k : ℕ) → Stands (drawing_of g) m f k → secret_in (λ w. bit_of flags (get_or g.of_wire w 0)) f ≡ bit_of flags k
+pub stood_secret : (g : Graph) (inputs registers flags : List Bool) → AreNodeSecrets g.nodes inputs registers flags → (f : Formula) (m k : ℕ) → Stands (drawing_of g) m f k → secret_in (λ w. bit_of flags (get_or g.of_wire w 0)) f ≡ bit_of flags k
 stood_secret g i r v s f_zero m k h = sym (s.spread k Zero h)
 stood_secret g i r v s f_one m k h = sym (s.spread k One h)
 stood_secret g i r v s (f_wire w) m k h = ap (bit_of v) (get_or_from_slice_get g.of_wire w k 0 h)
@@ -113,7 +113,7 @@ stood_secret g i r v s (f_mux c x y) m k h =
     ∙ sym (s.spread k (Mux h.0 h.1 h.2) h.3.0)
 
 -- what a wire depends on is what its driver reads or stores
-depends_is : (net : PlainNet) → WellFormed net → (w v : ℕ) → IsTrue (depends net w v) → IsTrue (reads_ever (driver net w) v)
+pub depends_is : (net : PlainNet) → WellFormed net → (w v : ℕ) → IsTrue (depends net w v) → IsTrue (reads_ever (driver net w) v)
 depends_is net well w v h = elim (or_cases (reads net w v) (list_any (λ r. (r.q == w) && stands v r.next) net.registers) h) [
   | inl read ↦ (
       let found = place_of_any (λ (l : Line). (l.0 == w) && stands v l.1) net.lines read in
@@ -138,14 +138,14 @@ but_any test (q ∷ qs) (suc c) (suc i) p at h ne =
     let ne' : i ≢ c = λ e. ne (ap suc e) in
     ap (λ n. test q || list_any test (take c qs ++ drop n (q ∷ qs))) one ∙ or_right (test q) (list_any test (take c qs ++ drop (c + 1) qs)) (but_any test qs c i p at h ne')
 
-zip_get : {X Y : Type 0} (xs : List X) (ys : List Y) (n : ℕ) (x : X) (y : Y) → slice_get (zip xs ys) n ≡ Some (x, y) → (slice_get xs n ≡ Some x) × (slice_get ys n ≡ Some y)
+pub zip_get : {X Y : Type 0} (xs : List X) (ys : List Y) (n : ℕ) (x : X) (y : Y) → slice_get (zip xs ys) n ≡ Some (x, y) → (slice_get xs n ≡ Some x) × (slice_get ys n ≡ Some y)
 zip_get [] ys n x y h = absurd (cc)
 zip_get (a ∷ as') [] n x y h = absurd (cc)
 zip_get {X} {Y} (a ∷ as') (b ∷ bs) zero x y h =
     let e : ◌≡◌ {A = X × Y} (a, b) (x, y) = cc in (ap (λ (t : X × Y). Some t.0) e, ap (λ (t : X × Y). Some t.1) e)
 zip_get (a ∷ as') (b ∷ bs) (suc n) x y h = zip_get as' bs n x y h
 
-get_zip : {X Y : Type 0} (xs : List X) (ys : List Y) (n : ℕ) (x : X) (y : Y) → slice_get xs n ≡ Some x → slice_get ys n ≡ Some y → slice_get (zip xs ys) n ≡ Some (x, y)
+pub get_zip : {X Y : Type 0} (xs : List X) (ys : List Y) (n : ℕ) (x : X) (y : Y) → slice_get xs n ≡ Some x → slice_get ys n ≡ Some y → slice_get (zip xs ys) n ≡ Some (x, y)
 get_zip [] ys n x y h k = absurd (cc)
 get_zip (a ∷ as') [] n x y h k = absurd (cc)
 get_zip (a ∷ as') (b ∷ bs) zero x y h k = let e : a ≡ x = cc in let f : b ≡ y = cc in ap₂ (λ s t. Some (s, t)) e f
@@ -168,7 +168,7 @@ any_bits w (p ∷ ps) h = go (any_bits w ps) (is_input p) h
     ]
     go more false k = more k
 
-secure_is : (m : Mark) → is_secure m ≡ true → m ≡ Secure
+pub secure_is : (m : Mark) → is_secure m ≡ true → m ≡ Secure
 secure_is Unmarked h = absurd (cc)
 secure_is Secure h = refl
 secure_is Public h = absurd (cc)
@@ -271,7 +271,7 @@ nodes_agree net graph marks flags s well none open_clock is are found ranks (suc
         image_at (a ∷ rs) (suc n) r h = image_at rs n r h
     by before d_nothing e has = absurd has
 
-is_output : (p : Port) → not (is_input p) ≡ true → p.way ≡ way.Output
+pub is_output : (p : Port) → not (is_input p) ≡ true → p.way ≡ way.Output
 is_output p h = of_way p.way h
   where
     of_way : (w : Way) → not (is_in w) ≡ true → w ≡ way.Output

@@ -1,4 +1,4 @@
-use Rattle.std.proofs.Common.{◌≡◌, ◌<◌, ◌≤◌, ℕ, length, sym, ap, subst, ◌∙◌, arith}
+use Rattle.std.proofs.Common.{◌≤◌, length, sym, ap, subst, ◌∙◌, arith}
 use Rattle.pipeline_balance.specs.Piped.{node_at}
 use Rattle.pipeline_balance.specs.Reaching.{AreReached}
 use Rattle.pipeline_balance.proofs.Raising.{all_raised}

@@ -1,10 +1,8 @@
-use Rattle.std.proofs.Common.{◌≡◌, ◌<◌, ◌≤◌, ◌+◌, ◌*◌, ◌-◌, ◌/◌, ◌^◌, ◌∙◌, ◌&&◌, ◌||◌, true, false, cond, IsTrue, nat_lt, length, sym, subst, subst₂, refl, ap, ap₂, lit<, arith}
-use Rattle.agm_net.specs.Formula.{xor}
+use Rattle.std.proofs.Common.{◌≤◌, ◌+◌, ◌*◌, ◌-◌, ◌/◌, ◌^◌, IsTrue, nat_lt, length, sym, subst, refl, lit<, arith}
 use Rattle.logic_graph.specs.declared.nodes.XanNode.TheVariants.{Input, Q, And}
 use Rattle.pipeline_balance.specs.declared.values.Value.{Value}
-use Rattle.pipeline_balance.specs.Signals.{Joins, Products}
-use Rattle.pipeline_balance.specs.Valued.{is_secret, IsValue, signal, MakesValue, IsInverse}
-use Rattle.pipeline_balance.specs.Chained.{value_at, chain_at, stage, at_level, kind_at}
+use Rattle.pipeline_balance.specs.Valued.{signal, MakesValue, IsInverse}
+use Rattle.pipeline_balance.specs.Chained.{value_at, kind_at}
 use Rattle.pipeline_balance.proofs.Sizes.{value_fits}
 use Rattle.pipeline_balance.proofs.Noding as noding
 use Rattle.pipeline_balance.proofs.Adding as adding

@@ -1,8 +1,7 @@
-use Rattle.std.proofs.Common.{◌≡◌, ◌<◌, ◌+◌, ◌*◌, ◌-◌, ◌/◌, ℕ, length, get_or, slice_get, Some, false, lit<, arith}
+use Rattle.std.proofs.Common.{◌≡◌, get_or, slice_get, Some, lit<}
 use Rattle.std.proofs.lemmas.Option.{slice_get-get_or}
 use Rattle.logic_graph.specs.declared.nodes.XanNode.{XanNode}
 use Rattle.logic_graph.specs.declared.nodes.XanNode.TheVariants.{Zero}
-use Rattle.pipeline_balance.specs.Chained.{IsFilled}
 use Rattle.pipeline_balance.proofs.Sizes.{value_fits}
 use Rattle.pipeline_balance.proofs.Filling as filling
 use Rattle.pipeline_balance.proofs.nodes.make_nodes.Goals as goal

@@ -1,6 +1,5 @@
-use Rattle.std.proofs.Common.{◌≡◌, ◌+◌, ◌*◌, ◌-◌, ◌/◌, ◌^◌, refl, sym, subst, lit<, arith}
+use Rattle.std.proofs.Common.{◌+◌, ◌*◌, ◌-◌, ◌/◌, sym, subst, lit<, arith}
 use Rattle.pipeline_balance.specs.declared.values.Value.{Value}
-use Rattle.pipeline_balance.specs.Valued.{size_of, wires_of}
 use Rattle.pipeline_balance.specs.Chained.{kind_at, gadgets_in, IsChain, MakesNode}
 use Rattle.pipeline_balance.proofs.Sizes.{value_fits}
 use Rattle.pipeline_balance.proofs.Adding as adding

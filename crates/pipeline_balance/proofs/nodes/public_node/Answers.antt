@@ -1,12 +1,9 @@
-use Rattle.std.proofs.Common.{◌≡◌, ◌<◌, ◌≤◌, ◌+◌, ◌*◌, ◌-◌, ◌/◌, ◌^◌, ◌∙◌, ◌&&◌, ◌||◌, true, false, length, sym, subst, subst₂, refl, ap, ap₂, lit<, arith}
-use Rattle.agm_net.specs.Formula.{xor}
+use Rattle.std.proofs.Common.{◌∙◌, ◌&&◌, ◌||◌, subst₂, ap₂, arith}
 use Rattle.pipeline_balance.specs.declared.values.Value.{Value}
-use Rattle.pipeline_balance.specs.Signals.{Joins, Products}
-use Rattle.pipeline_balance.specs.Valued.{is_secret, IsValue, signal, MakesValue}
-use Rattle.pipeline_balance.specs.Chained.{value_at, chain_at, stage, at_level, kind_at}
+use Rattle.pipeline_balance.specs.Signals.{Joins}
+use Rattle.pipeline_balance.specs.Valued.{signal, MakesValue}
 use Rattle.pipeline_balance.proofs.Sizes.{value_fits}
 use Rattle.pipeline_balance.proofs.Noding as noding
-use Rattle.pipeline_balance.proofs.Adding as adding
 use Rattle.pipeline_balance.proofs.nodes.public_node.Goals as goal
 
 pub product-requires : goal.product-requires

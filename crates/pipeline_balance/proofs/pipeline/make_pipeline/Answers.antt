@@ -1,4 +1,4 @@
-use Rattle.std.proofs.Common.{◌≡◌, ◌<◌, ◌≤◌, ◌+◌, ℕ, false, length, sym, ap, subst, subst₂, ◌∙◌, lit<, arith}
+use Rattle.std.proofs.Common.{◌≡◌, ◌<◌, ℕ, length, sym, ap, subst, subst₂, ◌∙◌, lit<, arith}
 use Rattle.pipeline_balance.specs.Chained.{value_at, at_level, IsFilled}
 use Rattle.pipeline_balance.specs.Registered.{AreClosed}
 use Rattle.pipeline_balance.specs.Piped.{node_at}
@@ -116,8 +116,8 @@ close_registers-requires g c =
       ),
     )
 
-pub returns : goal.returns
-returns g c =
+pub returns-clause-pipeline : goal.returns-clause-pipeline
+returns-clause-pipeline g c =
     let n = g.row.S in
     let start = c.args.builder.now in
     let mid = c.hold_registers.new.builder in
@@ -146,3 +146,20 @@ returns g c =
     let closed : AreClosed n now new c.args.load firsts held stored (length held) = subst₂ (λ h s. AreClosed n now new c.args.load firsts h s (length h)) c.as_slice-4.ensures c.as_slice-5.ensures c.in_ok-close_registers.ensures in
     piping.makes_pipeline n graph inputs firsts held stored ends outputs nexts layout start mid now new c.args.load depth table adds filled closed counted
     c.requires.outputs c.in_ok-ends.ensures.one_each out_are c.requires.nexts each_next next_are
+
+pub returns-clause-kinds : goal.returns-clause-kinds
+returns-clause-kinds g c o lt =
+    let n = g.row.S in
+    let mid = c.hold_registers.new.builder in
+    let now = c.make_nodes.new.builder in
+    let graph = c.args.graph.now in
+    let inputs = c.args.inputs.now in
+    let layout = c.args.layout.now in
+    let depth = c.args.depth in
+    let held = c.in_ok-held.held in
+    let table = c.in_ok-table.table in
+    let filled : IsFilled n graph inputs held layout mid now (length graph) table = subst (λ h. IsFilled n graph inputs h layout mid now (length graph) table) c.as_slice.ensures c.in_ok-table.ensures in
+    let outputs = c.args.outputs.now in
+    let ends = c.in_ok-ends.ends in
+    let out_are : (j : ℕ) → j < length outputs → value_at ends j ≡ at_level table (node_at outputs j) depth = λ j below. c.in_ok-ends.ensures.read j below ∙ ap (λ t. at_level t (node_at outputs j) depth) c.as_slice-2.ensures in
+    piping.end_kind n graph inputs held layout mid now table filled depth outputs c.requires.outputs ends c.in_ok-ends.ensures.one_each out_are o lt

@@ -1,9 +1,10 @@
-use Rattle.std.proofs.Common.{◌≡◌, ◌+◌, List, ℕ, Option, [], ◌∷◌, ◌++◌, length, map, get_or, sym, ap, subst, ◌∙◌}
+use Rattle.std.proofs.Common.{◌≡◌, ◌+◌, List, ℕ, Option, [], ◌∷◌, ◌++◌, length, get_or, sym, ap, subst, ◌∙◌}
 use Rattle.std.specs.List.{range_with_len}
 use Rattle.std.proofs.lemmas.Option.{slice_get-get_or, get_or_from_slice_get}
 use Rattle.agm_net.specs.Plain.{bit_names}
 use Rattle.agm_net.specs.declared.port.Range.{Range}
 use Rattle.share_wiring.specs.Built.{IsNewPort}
+use Rattle.share_wiring.specs.Networks.{FitsOrder}
 use Rattle.share_wiring.specs.Own.{input_wires}
 use Rattle.share_wiring.specs.Wiring.{Wiring}
 use Rattle.pipeline_balance.specs.Ports.{AreEntered, input_port, row_of}
@@ -36,5 +37,5 @@ loop-k-preserved c =
     entered_more c.args.range ns c.args.builder.now now k c.loop-k.rows c.loop-k.invariant c.port_in.new.self bits
     (e.bits ∙ ap (λ n. range_with_len (length now.wires) (length (bit_names n c.args.range))) name)
     (e.made ∙ ap (λ n. with_port now c.args.range bits n) name)
-    e.extends e.adds e.cells in
+    e.extends e.adds e.cells (λ d fits. e.network d (subst (FitsOrder d) (sym name) fits)) in
     subst (AreEntered c.args.range ns c.args.builder.now c.port_in.new.self (k + 1)) (sym c.in_ok-push.ensures.ok) more

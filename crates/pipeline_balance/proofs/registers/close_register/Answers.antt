@@ -1,7 +1,8 @@
-use Rattle.std.proofs.Common.{◌<◌, ◌≤◌, subst, lit<, arith}
+use Rattle.std.proofs.Common.{subst, lit<, arith}
 use Rattle.hpc2_gadget.proofs.Sizes.{array_fits}
 use Rattle.pipeline_balance.specs.Valued.{IsValue}
 use Rattle.pipeline_balance.specs.Registered.{IsHeld}
+use Rattle.pipeline_balance.proofs.Making.{one_fits_order}
 use Rattle.pipeline_balance.proofs.Sizes.{value_fits}
 use Rattle.pipeline_balance.proofs.registers.close_register.Goals as goal
 
@@ -44,3 +45,7 @@ close_secret-requires g c =
         ),
       ),
     )
+
+pub returns-in_ok-close_shares-in-Public-clause-goes : goal.returns-in_ok-close_shares-in-Public-clause-goes
+returns-in_ok-close_shares-in-Public-clause-goes g c =
+    rw (c.in-Public.is, c.public_of-first.ensures, c.public_of-late.ensures) (c.in_ok-close_shares-in-Public.ensures.goes g.row.S (one_fits_order g.row.S))

@@ -1,4 +1,4 @@
-use Rattle.std.proofs.Common.{◌≡◌, ◌<◌, ◌≤◌, ◌+◌, false, length, sym, ap, subst, ◌∙◌, lit<, arith}
+use Rattle.std.proofs.Common.{sym, ◌∙◌, arith}
 use Rattle.pipeline_balance.specs.Chained.{value_at}
 use Rattle.pipeline_balance.proofs.Sizes.{value_fits}
 use Rattle.pipeline_balance.proofs.Registering.{value_goes, same_kind, closed_begins, closed_read}

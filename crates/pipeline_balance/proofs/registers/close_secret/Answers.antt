@@ -1,9 +1,7 @@
-use Rattle.std.proofs.Common.{◌≡◌, ◌<◌, ◌+◌, ◌∙◌, sym, subst₂, ap, ap₂, lit<, arith}
+use Rattle.std.proofs.Common.{◌∙◌, ap₂, arith}
 use Rattle.hpc2_gadget.proofs.Sizes.{array_fits}
 use Rattle.pipeline_balance.specs.Signals.{selected}
-use Rattle.pipeline_balance.specs.Shared.{shared}
-use Rattle.pipeline_balance.specs.Valued.{size_of, wires_of}
-use Rattle.pipeline_balance.proofs.Making.{still}
+use Rattle.pipeline_balance.proofs.Making.{still, all_fit_order}
 use Rattle.pipeline_balance.proofs.Adding.{value_still}
 use Rattle.pipeline_balance.proofs.Sizes.{value_fits}
 use Rattle.pipeline_balance.proofs.Registering.{held_stays, goes_behind, goes_so}
@@ -36,7 +34,7 @@ pub returns-clause-goes : goal.returns-clause-goes
 returns-clause-goes g c =
     let n = g.row.S in
     goes_so _ _ _ _ (λ cycles bits f t lt. f.1.1 t lt ∙ ap₂ (λ x y. selected (bits t c.args.load) x y) (f.0 t (omega (arith, lt))) (f.1.0 t (omega (arith, lt))))
-    (goes_behind _ _ _ n _ _ _ c.in_ok-first.ensures (goes_behind _ _ _ n _ _ _ c.in_ok-late.ensures c.in_ok-close_shares.ensures.goes))
+    (goes_behind _ _ _ n _ _ _ c.in_ok-first.ensures (goes_behind _ _ _ n _ _ _ c.in_ok-late.ensures (c.in_ok-close_shares.ensures.goes n (all_fit_order n c.requires.size.0))))
 
 pub returns-clause-others : goal.returns-clause-others
 returns-clause-others g c m z are apart =

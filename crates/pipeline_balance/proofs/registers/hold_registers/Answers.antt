@@ -1,7 +1,6 @@
-use Rattle.std.proofs.Common.{◌≡◌, ◌<◌, ◌≤◌, [], length, take, map, ◌∙◌, ap, subst, arith}
+use Rattle.std.proofs.Common.{◌≡◌, [], length, take, ◌∙◌, ap, subst, arith}
 use Rattle.std.proofs.Math.Seq.{take-length}
 use Rattle.std.proofs.lemmas.List.{take_more}
-use Rattle.pipeline_balance.specs.declared.values.Value.{Value}
 use Rattle.pipeline_balance.specs.declared.values.Value.TheVariants.{Public}
 use Rattle.pipeline_balance.specs.Valued.{is_secret}
 use Rattle.pipeline_balance.specs.Chained.{value_at}

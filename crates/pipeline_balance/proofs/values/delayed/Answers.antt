@@ -1,13 +1,8 @@
-use Rattle.std.proofs.Common.{◌<◌, ◌≤◌, ◌+◌, ◌*◌, ◌-◌, ◌/◌, ◌^◌, ◌∙◌, ◌&&◌, ◌||◌, length, sym, subst, subst₂, refl, ap, lit<, arith}
-use Rattle.share_wiring.specs.Wiring.{IsSharing}
-use Rattle.share_wiring.specs.Adds.{random_bits}
+use Rattle.std.proofs.Common.{subst, lit<, arith}
 use Rattle.hpc2_gadget.proofs.Sizes.{array_fits}
-use Rattle.pipeline_balance.specs.Shared.{shared}
-use Rattle.pipeline_balance.specs.Valued.{is_secret, IsValue, signal}
-use Rattle.pipeline_balance.proofs.Bridges.{delays_carry, masks_join_second}
-use Rattle.pipeline_balance.proofs.Making.{by_call, behind, so, still, only_public}
-use Rattle.pipeline_balance.proofs.Adding.{makes_none, value_still}
-use Rattle.pipeline_balance.proofs.Sizes.{value_fits}
+use Rattle.pipeline_balance.specs.Valued.{IsValue}
+use Rattle.pipeline_balance.proofs.Bridges.{delays_carry}
+use Rattle.pipeline_balance.proofs.Making.{by_call, so, one_fits_order, all_fit_order}
 use Rattle.pipeline_balance.proofs.values.delayed.Goals as goal
 
 pub delay-requires : goal.delay-requires
@@ -24,10 +19,10 @@ pub returns-in_ok-next-in-Public-clause-made : goal.returns-in_ok-next-in-Public
 returns-in_ok-next-in-Public-clause-made g c =
     let n = g.row.S in
     let d = c.in_ok-next-in-Public.ensures in
-    rw c.in-Public.is (so 1 _ _ _ _ _ _ _ (λ cycles bits f p. delays_carry 1 cycles p bits c.in-Public.wire.shares c.in_ok-next-in-Public.next.shares f) (by_call 1 _ _ _ _ d.extends d.stays d.cells d.shares d.value))
+    rw c.in-Public.is (so 1 _ _ _ _ _ _ _ (λ cycles bits f p. delays_carry 1 cycles p bits c.in-Public.wire.shares c.in_ok-next-in-Public.next.shares f) (by_call 1 _ _ _ _ (one_fits_order g.row.S) d.extends d.stays d.cells d.network d.shares d.value))
 
 pub returns-in_ok-next-in-Secret-clause-made : goal.returns-in_ok-next-in-Secret-clause-made
 returns-in_ok-next-in-Secret-clause-made g c =
     let n = g.row.S in
     let d = c.in_ok-next-in-Secret.ensures in
-    rw c.in-Secret.is (so n _ _ _ _ _ _ _ (λ cycles bits f p. delays_carry n cycles p bits c.in-Secret.sharing.shares c.in_ok-next-in-Secret.next.shares f) (by_call n _ _ _ _ d.extends d.stays d.cells d.shares d.value))
+    rw c.in-Secret.is (so n _ _ _ _ _ _ _ (λ cycles bits f p. delays_carry n cycles p bits c.in-Secret.sharing.shares c.in_ok-next-in-Secret.next.shares f) (by_call n _ _ _ _ (all_fit_order n c.requires.size.0) d.extends d.stays d.cells d.network d.shares d.value))

@@ -1,12 +1,8 @@
-use Rattle.std.proofs.Common.{◌≡◌, ◌<◌, ◌≤◌, ◌+◌, ◌*◌, ◌-◌, ◌/◌, ◌^◌, ◌∙◌, ◌&&◌, ◌||◌, length, sym, subst, subst₂, refl, ap, ap₂, lit<, arith}
-use Rattle.share_wiring.specs.Wiring.{IsSharing}
+use Rattle.std.proofs.Common.{◌≡◌, ◌<◌, ◌≤◌, ◌+◌, ◌*◌, ◌-◌, ◌/◌, ◌^◌, ◌∙◌, ◌&&◌, length, sym, subst, subst₂, ap₂, arith}
 use Rattle.share_wiring.specs.Adds.{random_bits}
 use Rattle.hpc2_gadget.proofs.Sizes.{array_fits}
-use Rattle.pipeline_balance.specs.Shared.{shared}
-use Rattle.pipeline_balance.specs.Valued.{is_secret, IsValue, signal}
-use Rattle.pipeline_balance.proofs.Bridges.{delays_carry, masks_join_second}
-use Rattle.pipeline_balance.proofs.Making.{by_call, behind, so, still, only_public}
-use Rattle.pipeline_balance.proofs.Adding.{makes_none, value_still}
+use Rattle.pipeline_balance.proofs.Making.{behind, so, still}
+use Rattle.pipeline_balance.proofs.Adding.{value_still}
 use Rattle.pipeline_balance.proofs.Sizes.{value_fits}
 use Rattle.pipeline_balance.proofs.values.gadget.Goals as goal
 
@@ -38,4 +34,4 @@ returns-clause-made g c =
     so n _ _ _ _ _ _ _
     (λ cycles bits f t lt. f.1.1 t lt ∙ ap₂ (λ a b. a && b) (f.0 (t + 1) (omega arith)) (f.1.0 t (omega arith)))
     (behind n n _ _ _ _ _ _ _ _ _ c.in_ok-x.ensures (behind n n _ _ _ _ _ _ _ _ _ c.in_ok-y.ensures
-    (record { extends = d.extends; ports = d.ports; begun = d.gadgets; given = d.given; cells = d.cells; shares = d.shares; value = d.product })))
+    (record { extends = d.extends; ports = d.ports; begun = d.gadgets; given = d.given; sound = λ h. record { cells = d.cells h.cells; network = d.network h.network }; shares = d.shares; value = d.product })))

@@ -1,13 +1,7 @@
-use Rattle.std.proofs.Common.{◌<◌, ◌≤◌, ◌+◌, ◌*◌, ◌-◌, ◌/◌, ◌^◌, ◌∙◌, ◌&&◌, ◌||◌, length, sym, subst, subst₂, refl, ap, lit<, arith}
-use Rattle.share_wiring.specs.Wiring.{IsSharing}
-use Rattle.share_wiring.specs.Adds.{random_bits}
+use Rattle.std.proofs.Common.{subst, lit<, arith}
 use Rattle.hpc2_gadget.proofs.Sizes.{array_fits}
-use Rattle.pipeline_balance.specs.Shared.{shared}
-use Rattle.pipeline_balance.specs.Valued.{is_secret, IsValue, signal}
-use Rattle.pipeline_balance.proofs.Bridges.{delays_carry, masks_join_second}
-use Rattle.pipeline_balance.proofs.Making.{by_call, behind, so, still, only_public}
-use Rattle.pipeline_balance.proofs.Adding.{makes_none, value_still}
-use Rattle.pipeline_balance.proofs.Sizes.{value_fits}
+use Rattle.pipeline_balance.specs.Valued.{IsValue}
+use Rattle.pipeline_balance.proofs.Making.{by_call, one_fits_order, all_fit_order}
 use Rattle.pipeline_balance.proofs.values.inverse.Goals as goal
 
 pub not-requires : goal.not-requires
@@ -23,10 +17,10 @@ not-requires-in-Secret g c =
 pub returns-in_ok-inverted-in-Public-clause-made : goal.returns-in_ok-inverted-in-Public-clause-made
 returns-in_ok-inverted-in-Public-clause-made g c =
     let d = c.in_ok-inverted-in-Public.ensures in
-    rw c.in-Public.is (by_call 1 _ _ _ _ d.extends d.stays d.cells d.shares d.value)
+    rw c.in-Public.is (by_call 1 _ _ _ _ (one_fits_order g.row.S) d.extends d.stays d.cells d.network d.shares d.value)
 
 pub returns-in_ok-inverted-in-Secret-clause-made : goal.returns-in_ok-inverted-in-Secret-clause-made
 returns-in_ok-inverted-in-Secret-clause-made g c =
     let n = g.row.S in
     let d = c.in_ok-inverted-in-Secret.ensures in
-    rw c.in-Secret.is (by_call n _ _ _ _ d.extends d.stays d.cells d.shares d.value)
+    rw c.in-Secret.is (by_call n _ _ _ _ (all_fit_order n c.requires.size.0) d.extends d.stays d.cells d.network d.shares d.value)

@@ -1,14 +1,9 @@
 use Rattle.agm_net.specs.Formula.{xor}
-use Rattle.std.proofs.Common.{◌<◌, ◌≤◌, ◌+◌, ◌*◌, ◌-◌, ◌/◌, ◌^◌, ◌∙◌, ◌&&◌, ◌||◌, length, sym, subst, subst₂, refl, ap, lit<, arith}
-use Rattle.share_wiring.specs.Wiring.{IsSharing}
-use Rattle.share_wiring.specs.Adds.{random_bits}
+use Rattle.std.proofs.Common.{◌∙◌, subst, ap, lit<, arith}
 use Rattle.hpc2_gadget.proofs.Sizes.{array_fits}
 use Rattle.pipeline_balance.specs.Shared.{shared}
-use Rattle.pipeline_balance.specs.Valued.{is_secret, IsValue, signal}
-use Rattle.pipeline_balance.proofs.Bridges.{delays_carry, masks_join_second}
-use Rattle.pipeline_balance.proofs.Making.{by_call, behind, so, still, only_public}
-use Rattle.pipeline_balance.proofs.Adding.{makes_none, value_still}
-use Rattle.pipeline_balance.proofs.Sizes.{value_fits}
+use Rattle.pipeline_balance.specs.Valued.{IsValue}
+use Rattle.pipeline_balance.proofs.Making.{by_call, behind, so, still, all_fit_order}
 use Rattle.pipeline_balance.proofs.values.public_sum.Goals as goal
 
 pub xor-requires : goal.xor-requires
@@ -29,4 +24,4 @@ returns-in_ok-sum-in-Secret-clause-made g c =
     let d = c.in_ok-sum-in-Secret.ensures in
     rw c.in-Secret.is
     (so n _ _ _ _ _ _ _ (λ cycles bits f t lt. f.1 t lt ∙ ap (λ b. xor b (shared n bits c.in-Secret.sharing.shares t)) (f.0 t lt))
-    (behind n n _ _ _ _ _ _ _ _ _ (by_call n _ _ _ _ a.extends a.stays a.cells a.shares a.value) (by_call n _ _ _ _ d.extends d.stays d.cells d.shares d.value)))
+    (behind n n _ _ _ _ _ _ _ _ _ (by_call n _ _ _ _ (all_fit_order n c.requires.size.0) a.extends a.stays a.cells a.network a.shares a.value) (by_call n _ _ _ _ (all_fit_order n c.requires.size.0) d.extends d.stays d.cells d.network d.shares d.value)))

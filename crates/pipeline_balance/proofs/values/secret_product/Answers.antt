@@ -1,13 +1,8 @@
-use Rattle.std.proofs.Common.{◌<◌, ◌≤◌, ◌+◌, ◌*◌, ◌-◌, ◌/◌, ◌^◌, ◌∙◌, ◌&&◌, ◌||◌, length, sym, subst, subst₂, refl, ap, lit<, arith}
-use Rattle.share_wiring.specs.Wiring.{IsSharing}
-use Rattle.share_wiring.specs.Adds.{random_bits}
+use Rattle.std.proofs.Common.{subst}
 use Rattle.hpc2_gadget.proofs.Sizes.{array_fits}
-use Rattle.pipeline_balance.specs.Shared.{shared}
-use Rattle.pipeline_balance.specs.Valued.{is_secret, IsValue, signal}
-use Rattle.pipeline_balance.proofs.Bridges.{delays_carry, masks_join_second}
-use Rattle.pipeline_balance.proofs.Making.{by_call, behind, so, still, only_public}
-use Rattle.pipeline_balance.proofs.Adding.{makes_none, value_still}
-use Rattle.pipeline_balance.proofs.Sizes.{value_fits}
+use Rattle.pipeline_balance.specs.Valued.{IsValue}
+use Rattle.pipeline_balance.proofs.Bridges.{masks_join_second}
+use Rattle.pipeline_balance.proofs.Making.{by_call, so, only_public, all_fit_order}
 use Rattle.pipeline_balance.proofs.values.secret_product.Goals as goal
 
 pub and_public-requires : goal.and_public-requires
@@ -20,4 +15,4 @@ returns-clause-made g c =
     let n = g.row.S in
     let d = c.in_ok-product-in-Public.ensures in
     rw c.in-Public.is
-    (so n _ _ _ _ _ _ _ (λ cycles bits f. masks_join_second n cycles bits c.in-Public.wire.shares c.args.x.now.shares c.in_ok-product-in-Public.product.shares f) (by_call n _ _ _ _ d.extends d.stays d.cells d.shares d.value))
+    (so n _ _ _ _ _ _ _ (λ cycles bits f. masks_join_second n cycles bits c.in-Public.wire.shares c.args.x.now.shares c.in_ok-product-in-Public.product.shares f) (by_call n _ _ _ _ (all_fit_order n c.requires.size.0) d.extends d.stays d.cells d.network d.shares d.value))

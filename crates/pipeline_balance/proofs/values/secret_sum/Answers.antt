@@ -1,14 +1,8 @@
 use Rattle.agm_net.specs.Formula.{xor}
-use Rattle.std.proofs.Common.{◌<◌, ◌≤◌, ◌+◌, ◌*◌, ◌-◌, ◌/◌, ◌^◌, ◌∙◌, ◌&&◌, ◌||◌, length, sym, subst, subst₂, refl, ap, lit<, arith}
-use Rattle.share_wiring.specs.Wiring.{IsSharing}
-use Rattle.share_wiring.specs.Adds.{random_bits}
+use Rattle.std.proofs.Common.{◌∙◌, ap}
 use Rattle.hpc2_gadget.proofs.Sizes.{array_fits}
 use Rattle.pipeline_balance.specs.Shared.{shared}
-use Rattle.pipeline_balance.specs.Valued.{is_secret, IsValue, signal}
-use Rattle.pipeline_balance.proofs.Bridges.{delays_carry, masks_join_second}
-use Rattle.pipeline_balance.proofs.Making.{by_call, behind, so, still, only_public}
-use Rattle.pipeline_balance.proofs.Adding.{makes_none, value_still}
-use Rattle.pipeline_balance.proofs.Sizes.{value_fits}
+use Rattle.pipeline_balance.proofs.Making.{by_call, behind, so, still, all_fit_order}
 use Rattle.pipeline_balance.proofs.values.secret_sum.Goals as goal
 
 pub xor-requires : goal.xor-requires
@@ -22,4 +16,4 @@ returns-clause-made g c =
     let n = g.row.S in
     let d = c.in_ok-sum.ensures in
     so n _ _ _ _ _ _ _ (λ cycles bits f t lt. f.1 t lt ∙ ap (xor (shared n bits c.args.x.now.shares t)) (f.0 t lt))
-    (behind n n _ _ _ _ _ _ _ _ _ c.in_ok-other.ensures (by_call n _ _ _ _ d.extends d.stays d.cells d.shares d.value))
+    (behind n n _ _ _ _ _ _ _ _ _ c.in_ok-other.ensures (by_call n _ _ _ _ (all_fit_order n c.requires.size.0) d.extends d.stays d.cells d.network d.shares d.value))

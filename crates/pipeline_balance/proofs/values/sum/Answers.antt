@@ -1,12 +1,6 @@
-use Rattle.std.proofs.Common.{◌<◌, ◌≤◌, ◌+◌, ◌*◌, ◌-◌, ◌/◌, ◌^◌, ◌∙◌, ◌&&◌, ◌||◌, length, sym, subst, subst₂, refl, ap, lit<, arith}
-use Rattle.share_wiring.specs.Wiring.{IsSharing}
-use Rattle.share_wiring.specs.Adds.{random_bits}
+use Rattle.std.proofs.Common.{subst}
 use Rattle.hpc2_gadget.proofs.Sizes.{array_fits}
-use Rattle.pipeline_balance.specs.Shared.{shared}
-use Rattle.pipeline_balance.specs.Valued.{is_secret, IsValue, signal}
-use Rattle.pipeline_balance.proofs.Bridges.{delays_carry, masks_join_second}
-use Rattle.pipeline_balance.proofs.Making.{by_call, behind, so, still, only_public}
-use Rattle.pipeline_balance.proofs.Adding.{makes_none, value_still}
+use Rattle.pipeline_balance.specs.Valued.{IsValue}
 use Rattle.pipeline_balance.proofs.Sizes.{value_fits}
 use Rattle.pipeline_balance.proofs.values.sum.Goals as goal
 
