@@ -1,2 +1,9 @@
 pub mod ShareNames
 pub mod Steps
+pub mod Ascending
+pub mod OriginsTold
+pub mod Walking
+pub mod Running
+pub mod Outputs
+pub mod Joined
+pub mod Seen

@@ -1,17 +1,18 @@
 -- The names in which a share index is found.
-use Rattle.std.proofs.Common.{◌≡◌, ◌≢◌, ◌<◌, ◌+◌, ◌^◌, ◌==◌, ◌⊎◌, ◌&&◌, ◌||◌, ◌++◌, ℕ, zero, suc, Bool, true, false, not, cond, List, [], ◌∷◌, Option, Some, None, length, take, drop, codes, get_or, nat_lt, eqb, refl, sym, ap, ap₂, ◌∙◌, subst, inl, inr, ⊎_elim, arith, true≢false, eqb-true, eq-eqb, option_map}
+use Rattle.std.proofs.Common.{◌≡◌, ◌<◌, ◌^◌, ◌==◌, ◌&&◌, ◌||◌, ◌++◌, ℕ, Bool, true, false, not, cond, List, [], ◌∷◌, Option, Some, None, length, take, drop, codes, get_or, nat_lt, eqb, refl, sym, ap, ap₂, ◌∙◌, subst, inl, inr, ⊎_elim, arith, true≢false, eqb-true, eq-eqb, option_map}
 use Rattle.std.specs.Char.{is_digit, digit_value}
 use Rattle.std.specs.Fmt.{decimal}
 use Rattle.std.specs.List.{list_all, starts_with}
+use Rattle.std.specs.Option.{option_map_or}
 use Rattle.std.specs.Str.Parse.{AllDigits, digits_value}
 use Rattle.std.proofs.lemmas.Bool.{and_parts, or_cases, ltb-true}
 use Rattle.std.proofs.lemmas.Bool.Decides.{nat_tests}
 use Rattle.std.proofs.lemmas.Fmt.{decimal_is_IsNumeral}
 use Rattle.std.proofs.lemmas.List.{take-append-drop}
 use Rattle.std.proofs.lemmas.Slice.Eq.{bytes_eq-Decides}
-use Rattle.agm_net.specs.Role.{share_name, state_name}
+use Rattle.agm_net.specs.Role.{IsOfShare, share_name}
 use Rattle.agm_net.proofs.ShareIndex.{HasNoLine, decimal_has_no_line, unpadded, written}
-use Rattle.probe_cones.specs.Shares.{is_index, index_of, with_text, before_line, behind_line, share_of}
+use Rattle.probe_cones.specs.Shares.{is_index, index_of, with_text, before_line, behind_line, is_share, share_of}
 use Rattle.probe_cones.specs.Laws.{IsNamed}
 
 all_digits : (ds : List ℕ) → list_all (λ b. is_digit b 10) ds ≡ true → AllDigits 10 ds
@@ -134,3 +135,25 @@ pub share_found : (name : List ℕ) (s : ℕ × List ℕ) → IsNamed name s →
 share_found name s (small, inl (some, is)) = ap share_of is ∙ port_found s.0 s.1 small some
 share_found name s (small, inr (none, is)) =
     ap share_of is ∙ (ap (option_map {U = ℕ × List ℕ} (λ i. (i, []))) (index_decimal s.0 small) ∙ ap (λ x. Some (s.0, x)) (sym none))
+
+-- what the role of a port says of its share index
+pub role_share : (name : List ℕ) (i index : ℕ) → IsOfShare i name → is_share index name ≡ (i == index)
+role_share name i index (small, inl (rest, some, e)) = ap (λ o. option_map_or (λ (s : ℕ × List ℕ). s.0 == index) o false) (share_found name (i, rest) (small, inl (some, e)))
+role_share name i index (small, inr e) = ap (λ o. option_map_or (λ (s : ℕ × List ℕ). s.0 == index) o false) (share_found name (i, []) (small, inr (refl, e)))
+
+pub role_none : (name : List ℕ) (index : ℕ) → ((i : ℕ) → IsOfShare i name → Prim.⊥) → is_share index name ≡ false
+role_none name index none = go (share_of name) refl
+  where
+    go : (o : Option (ℕ × List ℕ)) → share_of name ≡ o → option_map_or (λ (s : ℕ × List ℕ). s.0 == index) o false ≡ false
+    go None e = refl
+    go (Some s) e = absurd (none s.0 (named (share_text name s e)))
+      where
+        named : IsNamed name s → IsOfShare s.0 name
+        named (small, inl (some, is)) = (small, inl (s.1, some, is))
+        named (small, inr (empty, is)) = (small, inr is)
+
+pub not_clock : (name : List ℕ) (index : ℕ) → name ≡ codes "agm_clk" → is_share index name ≡ false
+not_clock name index e = ap (is_share index) e
+
+pub not_random : (name : List ℕ) (index : ℕ) → name ≡ codes "agm_r" → is_share index name ≡ false
+not_random name index e = ap (is_share index) e

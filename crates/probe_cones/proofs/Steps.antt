@@ -1,5 +1,5 @@
 -- The cone is what lists of steps lead to.
-use Rattle.std.proofs.Common.{◌≡◌, ℕ, zero, suc, ◌<◌, ◌≤◌, ◌+◌, ◌-◌, ◌==◌, Bool, true, false, ◌||◌, ◌↔◌, cond, List, [], ◌∷◌, ◌++◌, map, length, IsTrue, refl, sym, ap, ap₂, ◌∙◌, subst, arith, inl, inr, ⊎_elim, true≢false, eqb-true, eq-eqb, filter}
+use Rattle.std.proofs.Common.{◌≡◌, ℕ, zero, suc, ◌<◌, ◌≤◌, ◌+◌, ◌-◌, ◌==◌, Bool, true, false, ◌||◌, cond, List, [], ◌∷◌, ◌++◌, map, length, refl, sym, ap, ap₂, ◌∙◌, subst, arith, ⊎_elim, true≢false, eqb-true, eq-eqb, filter}
 use Rattle.std.proofs.lemmas.Bool.{or_cases, cases_eq}
 use Rattle.std.specs.List.{AllByRecursion, list_any, range_with_len}
 use Rattle.agm_net.specs.Plain.{PlainNet}
@@ -8,7 +8,7 @@ use Rattle.agm_net.specs.Run.{driver}
 use Rattle.agm_net.specs.WellFormed.{WellFormed}
 use Rattle.agm_net.proofs.Driving.{now_is_ever, reads_are_wires, reads_is}
 use Rattle.agm_net.proofs.Ranks.{ranked}
-use Rattle.probe_cones.specs.Cone.{cone, is_source, within, with_reads, wire_numbers}
+use Rattle.probe_cones.specs.Cone.{cone, is_source, within, wire_numbers}
 use Rattle.probe_cones.specs.Laws.{LeadsTo}
 
 -- what all items that pass have

@@ -7,6 +7,7 @@ use Rattle.std.specs.List.{flat_map, list_any, range_with_len}
 use Rattle.agm_net.specs.Plain.{PlainNet, is_input}
 use Rattle.agm_net.specs.Loop.{reads}
 use Rattle.agm_net.specs.Run.{Driver, d_input, d_register, driver}
+use Rattle.agm_net.specs.declared.port.Port.{Port}
 use Rattle.probe_cones.specs.Shares.{is_share}
 use Rattle.probe_cones.specs.declared.probe.Probe.{Probe}
 
@@ -32,9 +33,12 @@ within net w (suc n) = with_reads net (within net w n)
 abbrev pub cone : PlainNet → ℕ → List ℕ
 cone net w = filter (λ v. is_source (driver net v)) (within net w (length net.wires))
 
--- the bits of output ports with share i
+-- the bits of those of some ports that are output ports with share i
+abbrev pub output_bits_in : ℕ → List Port → List ℕ
+output_bits_in i ports = flat_map (λ p. p.bits) (filter (λ p. not (is_input p) && is_share i p.name) ports)
+
 abbrev pub output_bits_of : PlainNet → ℕ → List ℕ
-output_bits_of net i = flat_map (λ p. p.bits) (filter (λ p. not (is_input p) && is_share i p.name) net.ports)
+output_bits_of net i = output_bits_in i net.ports
 
 -- What probes and listed output shares see of T cycles with the bits x: for each probe its cone in its cycle, and then for each
 -- listed index, in each cycle, the cones of all output bits of that share.

@@ -7,8 +7,8 @@ use Rattle.probe_lists.specs.Written.{list_data}
 use Rattle.probe_lists.specs.declared.fault.ProbeCause.TheVariants.{Json, Shape}
 use Rattle.probe_lists.specs.declared.fault.ProbeFault.{ProbeFault}
 use Rattle.probe_lists.specs.declared.fault.ProbeFault.TheVariants.{Bad, Memory}
-use Rattle.probe_lists.specs.declared.probes.Probe.{Probe}
-use Rattle.probe_lists.specs.declared.probes.Probes.{Probes}
+use Rattle.probe_cones.specs.declared.probe.Probe.{Probe}
+use Rattle.probe_cones.specs.declared.probe.Probes.{Probes}
 use Rattle.probe_lists.specs.declared.texts.ListText.{ListText}
 use Rattle.probe_lists.specs.declared.texts.ProbeText.{ProbeText}
 

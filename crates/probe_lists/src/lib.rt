@@ -8,5 +8,5 @@ mod reading;
 mod texts;
 
 pub use fault::{ProbeCause, ProbeFault};
-pub use probes::{Probe, Probes};
+pub use probe_cones::{Probe, Probes};
 pub use reading::read_probes;

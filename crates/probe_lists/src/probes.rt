@@ -4,21 +4,8 @@ ghost use Rattle.probe_lists.specs.Answer as spec;
 use crate::texts::{ListText, ProbeText};
 use agm_bits::{List, Memory};
 use name_table::Names;
+use probe_cones::{Probe, Probes};
 use std::alloc::Global;
-
-/// A probe of a wire, by its number, in one cycle. Cycles are counted from 0.
-#[derive(Clone, Copy, Debug, PartialEq, Eq)]
-pub struct Probe {
-    pub wire: usize,
-    pub cycle: usize,
-}
-
-/// What an observer asks for: probes, and all output shares of some indices.
-#[derive(Debug, Drop)]
-pub struct Probes {
-    pub probes: List<Probe>,
-    pub indices: List<usize>,
-}
 
 // The probe of a text, whose wire is there.
 fn probe_of(wires: &Names, text: &ProbeText) -> Probe

@@ -9,9 +9,10 @@ ghost use Rattle.probe_lists.specs.declared.fault.ProbeFault.TheVariants as faul
 use crate::checks::{first_fault, table_of};
 use crate::probes::probes_of as found;
 use crate::texts::{ListText, read_texts};
-use crate::{ProbeCause, ProbeFault, Probes};
+use crate::{ProbeCause, ProbeFault};
 use agm_net::Net;
 use json_values::{JsonFault, json_value};
+use probe_cones::Probes;
 use serde_json::Value;
 use std::alloc::Global;
 

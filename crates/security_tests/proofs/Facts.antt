@@ -3,7 +3,8 @@ use Rattle.std.proofs.Common.{◌≡◌, ◌≤◌, ℕ, zero, suc, Bool, true, 
 use Rattle.agm_net.specs.Trace.{Row}
 use Rattle.security_tests.specs.Nets.{joined_net, probe, shares}
 use Rattle.twin_tape.specs.Security.{Agree, AreProbes, Pini, sees, seen}
-use Rattle.twin_tape.specs.Tapes.{IsTape, share_bit}
+use Rattle.probe_cones.specs.Inputs.{share_bit}
+use Rattle.twin_tape.specs.Tapes.{IsTape}
 
 abbrev count : List Row → ℕ
 count inputs = seen joined_net 1 [] inputs (probe 4 0 ∷ []) [] (false ∷ false ∷ false ∷ [])

@@ -5,7 +5,8 @@ use Rattle.agm_net.specs.Plain.{Line, PlainNet, Stored}
 use Rattle.agm_net.specs.Trace.{Row, bit_at, row_at}
 use Rattle.security_tests.specs.Nets.{adds_to, always, on_inputs, shares}
 use Rattle.twin_tape.specs.Security.{Agree, IsSharing, IsWhole, TellsSharings, is_the_share, recombined, role_at, step_of}
-use Rattle.twin_tape.specs.Tapes.{BitRole, IsTape, Secret, open_bit, random_bit, roles, share_bit}
+use Rattle.probe_cones.specs.Inputs.{BitRole, Secret, open_bit, random_bit, roles, share_bit}
+use Rattle.twin_tape.specs.Tapes.{IsTape}
 
 pub long : (R T : ℕ) (tape : List Row) → IsTape R T tape → length tape ≡ T
 long R zero [] is = refl

@@ -10,7 +10,8 @@ use Rattle.security_tests.specs.Nets.{masked_net, probe}
 use Rattle.twin_tape.specs.Laws.{HasTwins, IsCausal, xor_row}
 use Rattle.security_tests.proofs.Inputs.{long}
 use Rattle.twin_tape.specs.Security.{Agree}
-use Rattle.twin_tape.specs.Tapes.{IsTape, bit_roles, bit_with, first_bit, joined, with_random}
+use Rattle.probe_cones.specs.Inputs.{bit_roles, bit_with, first_bit, joined, with_random}
+use Rattle.twin_tape.specs.Tapes.{IsTape}
 
 -- the row of cycle t of a tape that is given cycle by cycle
 row_of : (f : ℕ → Row) (n t : ℕ) → t < n → row_at (map f (range_with_len 0 n)) t ≡ f t

@@ -4,7 +4,8 @@ use Rattle.agm_net.specs.Trace.{Row, bit_at}
 use Rattle.security_tests.proofs.Inputs.{long}
 use Rattle.security_tests.specs.Nets.{share_net}
 use Rattle.twin_tape.specs.Security.{Pini, seen, sees}
-use Rattle.twin_tape.specs.Tapes.{IsTape, share_bit}
+use Rattle.probe_cones.specs.Inputs.{share_bit}
+use Rattle.twin_tape.specs.Tapes.{IsTape}
 
 -- tapes of one bit a row are the same where their bits are
 same_tapes : (T : ℕ) (first second : List Row) → IsTape 1 T first → IsTape 1 T second → ((t : ℕ) → t < T → bit_at first t 0 ≡ bit_at second t 0) → first ≡ second

@@ -13,7 +13,8 @@ use Rattle.twin_tape.proofs.Views.{map_at}
 use Rattle.twin_tape.specs.Laws.{IsCausal, xor_row}
 use Rattle.twin_tape.specs.Permitted.{has}
 use Rattle.twin_tape.specs.Security.{Agree, Blind, IsHeld, IsSharing, IsWhole, Pini, Secrets, is_the_share, recombined, role_at, sees, step_of}
-use Rattle.twin_tape.specs.Tapes.{BitRole, IsTape, Secret, same_secret, random_bit, open_bit, roles, share_bit}
+use Rattle.probe_cones.specs.Inputs.{BitRole, Secret, same_secret, random_bit, open_bit, roles, share_bit}
+use Rattle.twin_tape.specs.Tapes.{IsTape}
 
 -- a list of fewer than n numbers lacks one below n
 abbrev pub without : ℕ → List ℕ → List ℕ

@@ -5,7 +5,7 @@ use Rattle.agm_net.specs.Label.{part, HasNumbers, is_share_kind}
 use Rattle.agm_net.specs.declared.label.Part.{Part as PartOf}
 use Rattle.agm_net.specs.declared.label.PartKind.{PartKind}
 use Rattle.agm_net.specs.declared.label.PartKind.TheVariants.{Clk as KClk, A as KA, B as KB, R as KR, Rr as KRr, Bb as KBb, Vx as KVx, V as KV, Na as KNa, Ux as KUx, U as KU, Wx as KWx, W as KW, Mx as KMx, M as KM, S as KS, C as KC}
-use Rattle.twin_tape.specs.Tapes.{random_bit, share_bit, open_bit, is_random, bit_role, share_role}
+use Rattle.probe_cones.specs.Inputs.{random_bit, share_bit, open_bit, is_random, bit_role, share_role}
 use Rattle.twin_tape.proofs.Network.{part_share, HasPart}
 
 -- the first wire of a name

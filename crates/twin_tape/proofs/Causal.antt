@@ -3,13 +3,13 @@ use Rattle.std.proofs.Common.{length, ◌≡◌, ℕ, suc, ◌<◌, ◌≤◌, B
 use Rattle.agm_net.specs.Formula.{xor}
 use Rattle.agm_net.specs.Plain.{PlainNet}
 use Rattle.agm_net.specs.Trace.{Row, bit_at}
-use Rattle.twin_tape.proofs.Agreement.{Ties, alike}
+use Rattle.twin_tape.proofs.Induction.{Ties, alike}
 use Rattle.twin_tape.proofs.Network.{IsNetwork, Names}
 use Rattle.agm_net.specs.declared.label.PartKind.TheVariants.{A as KA, B as KB}
 use Rattle.twin_tape.proofs.Parts.{part_sees}
 use Rattle.twin_tape.proofs.ShareReads.{Sees, sees_map}
 use Rattle.twin_tape.proofs.Sources.{Ranked}
-use Rattle.twin_tape.specs.Tapes.{bit_with}
+use Rattle.probe_cones.specs.Inputs.{bit_with}
 
 module _ (net : PlainNet) (names : Names) (d : ℕ) (hpc2 : IsNetwork net names d) (ranked : Ranked net) (power : List Bool) (inputs random other : List Row) (t : ℕ) (same : (b n : ℕ) → b < t → bit_at random b n ≡ bit_at other b n) where
   causal_ties : Ties net names d hpc2 ranked (suc (suc t)) power inputs inputs random other (λ c i. c ≤ suc t)

@@ -4,7 +4,7 @@ use Rattle.agm_net.specs.Formula.{xor}
 use Rattle.agm_net.specs.Plain.{PlainNet}
 use Rattle.agm_net.specs.Trace.{Row, bit_at}
 use Rattle.probe_cones.specs.declared.probe.Probe.{Probe}
-use Rattle.twin_tape.proofs.Agreement.{alike}
+use Rattle.twin_tape.proofs.Induction.{alike}
 use Rattle.twin_tape.proofs.KnownSets.{known_older}
 use Rattle.twin_tape.proofs.Network.{IsNetwork, IsTwin, Names, change, half_at, sights_of, stores_seen}
 use Rattle.agm_net.specs.declared.label.PartKind.TheVariants.{A as KA, B as KB}
@@ -14,7 +14,8 @@ use Rattle.twin_tape.proofs.TwinMap.{bit_pair, only_twin, twin_of}
 use Rattle.twin_tape.proofs.TwinTies.{twin_ties}
 use Rattle.twin_tape.specs.Permitted.{half_change, has, known}
 use Rattle.twin_tape.specs.Security.{role_at, sees}
-use Rattle.twin_tape.specs.Tapes.{IsTape, bit_with, random_width, roles}
+use Rattle.probe_cones.specs.Inputs.{bit_with, random_width, roles}
+use Rattle.twin_tape.specs.Tapes.{IsTape}
 
 half_swap : (next last probed a a' b b' : Bool) → (next ≡ true → last ≡ false → a ≡ a') → half_change next last probed a' b' b ≡ half_change next last probed a b b'
 half_swap true false probed a a' b b' same = swap a a' b b' (same refl refl)

@@ -16,7 +16,8 @@ use Rattle.twin_tape.proofs.Views.{flat_map-ext}
 use Rattle.twin_tape.specs.Laws.{HasTwins, IsCausal}
 use Rattle.twin_tape.specs.Permitted.{has, known}
 use Rattle.twin_tape.specs.Security.{AreProbes, Pini, role_at, sees}
-use Rattle.twin_tape.specs.Tapes.{BitRole, IsTape, random_width, bit_with, open_bit, random_bit, roles, share_bit}
+use Rattle.probe_cones.specs.Inputs.{BitRole, random_width, bit_with, open_bit, random_bit, roles, share_bit}
+use Rattle.twin_tape.specs.Tapes.{IsTape}
 
 flat_map_range-ext : (f g : ℕ → List Bool) (a n m : ℕ) → a + n ≤ m → ((t : ℕ) → t < m → f t ≡ g t) → flat_map f (range_with_len a n) ≡ flat_map g (range_with_len a n)
 flat_map_range-ext f g a zero m le same = refl

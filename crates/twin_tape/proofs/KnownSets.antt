@@ -1,7 +1,9 @@
 -- The sets of indices that are to agree.
 use Rattle.std.proofs.Common.{◌≡◌, ◌≢◌, ℕ, zero, suc, ◌-◌, ◌<◌, ◌≤◌, ◌⊎◌, Bool, true, false, ◌||◌, cond, List, [], ◌∷◌, length, slice_index_or, nat_eq, refl, sym, ap, ap₂, ◌∙◌, subst, inl, inr, ⊎_elim, arith, true≢false, eq-eqb, ne_eqb}
 use Rattle.std.proofs.lemmas.Bool.{cases_lt, false_from_ne_true}
-use Rattle.twin_tape.specs.Permitted.{Inner, Nobody, One', Sight, begun, grown, has, known, taken, with}
+use Rattle.twin_tape.specs.Permitted.{begun, grown, has, known, taken, with}
+use Rattle.twin_tape.specs.declared.sight.Sight.{Sight}
+use Rattle.twin_tape.specs.declared.sight.Sight.TheVariants.{Inner, Nobody, One as One'}
 
 or_right : (x y : Bool) → y ≡ true → (x || y) ≡ true
 or_right x y e = grind arith
@@ -141,7 +143,7 @@ module _ (sights : List Sight) (A : List ℕ) (T : ℕ) where
       let h : T - c ≡ suc T - suc c = omega arith in
       ap (taken sights A T) e ∙ ap₂ (λ a b. grown sights a (taken sights A T b)) f h
 
-  known_late : (c : ℕ) → T < c → known sights A T c ≡ begun sights A
+  pub known_late : (c : ℕ) → T < c → known sights A T c ≡ begun sights A
   known_late c lt = let e : suc T - c ≡ 0 = omega arith in ap (taken sights A T) e
 
   pub known_older : (c i : ℕ) → has (known sights A T (suc c)) i ≡ true → has (known sights A T c) i ≡ true

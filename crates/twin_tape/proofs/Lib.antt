@@ -1,11 +1,16 @@
-mod Agreement
+mod Agreeing
+mod Alike
 mod Bijections
 mod Blinding
+mod Bounded
 mod Bridge
+mod Agreed
 mod Causal
+mod Columns
 mod Counting
 mod Exchange
 mod Heads
+mod Induction
 mod Isolation
 mod KnownSets
 mod Labels
@@ -22,6 +27,7 @@ mod ShareReads
 mod Sizes
 mod Sources
 mod Splits
+mod Stages
 mod TwinIs
 mod TwinMap
 mod TwinTies

@@ -9,9 +9,11 @@ use Rattle.probe_cones.specs.Cone.{output_bits_of}
 use Rattle.probe_cones.specs.declared.probe.Probe.{Probe}
 use Rattle.agm_net.specs.declared.label.PartKind.{PartKind}
 use Rattle.agm_net.specs.declared.label.PartKind.TheVariants.{Clk as KClk, A as KA, B as KB, R as KR, Rr as KRr, Bb as KBb, Vx as KVx, V as KV, Na as KNa, Ux as KUx, U as KU, Wx as KWx, W as KW, Mx as KMx, M as KM, S as KS, C as KC}
-use Rattle.twin_tape.specs.Tapes.{open_bit, roles, random_width, bit_with}
+use Rattle.probe_cones.specs.Inputs.{open_bit, roles, random_width, bit_with}
 use Rattle.twin_tape.specs.Security.{sees, role_at}
-use Rattle.twin_tape.specs.Permitted.{Sight, Nobody, One', Inner, has, known, half_change}
+use Rattle.twin_tape.specs.Permitted.{has, known, half_change}
+use Rattle.twin_tape.specs.declared.sight.Sight.{Sight}
+use Rattle.twin_tape.specs.declared.sight.Sight.TheVariants.{Nobody, One as One', Inner}
 use Rattle.twin_tape.proofs.Sources.{Input, Random, Clock, Equation, Register, source, reads_ever}
 
 -- What a wire's name says: the clock, public, the random bit of a pair, a wire of a share, or a part of a gadget.

@@ -9,7 +9,7 @@ use Rattle.agm_net.specs.declared.label.PartKind.{PartKind}
 use Rattle.agm_net.specs.declared.label.PartKind.TheVariants.{A as KA, B as KB, Na as KNa, R as KR, Rr as KRr, U as KU, Ux as KUx, V as KV, Vx as KVx, W as KW, Wx as KWx}
 use Rattle.twin_tape.proofs.ShareReads.{Sees, SharePart, kept}
 use Rattle.twin_tape.proofs.Sources.{Equation, Random, Ranked, Register, Source, asked, bit_is, reads_ever, source}
-use Rattle.twin_tape.specs.Tapes.{bit_with, random_width}
+use Rattle.probe_cones.specs.Inputs.{bit_with, random_width}
 
 pub small_great : (i j : ℕ) → i ≢ j → min i j < max i j
 small_great i j ne = omega arith

@@ -12,9 +12,11 @@ use Rattle.agm_net.specs.declared.label.PartKind.{PartKind}
 use Rattle.agm_net.specs.declared.label.PartKind.TheVariants.{Clk as KClk, R as KR, Rr as KRr, Vx as KVx, V as KV, Ux as KUx, Wx as KWx}
 use Rattle.probe_cones.specs.declared.probe.Probe.{Probe}
 use Rattle.twin_tape.specs.Permitted as by_label
-use Rattle.twin_tape.specs.Permitted.{Sight, One', Inner, AreLabels, inner_sight, known, permitted}
+use Rattle.twin_tape.specs.Permitted.{AreLabels, inner_sight, known, permitted}
+use Rattle.twin_tape.specs.declared.sight.Sight.TheVariants.{One as One'}
 use Rattle.twin_tape.specs.Security.{Agree, AreProbes, seen}
-use Rattle.twin_tape.specs.Tapes.{IsTape, roles}
+use Rattle.probe_cones.specs.Inputs.{roles}
+use Rattle.twin_tape.specs.Tapes.{IsTape}
 use Rattle.twin_tape.proofs.Counting.{length-IsTape}
 use Rattle.twin_tape.proofs.Isolation.{twins_of}
 use Rattle.twin_tape.proofs.Labels.{label_is, names, tag}

@@ -1,6 +1,6 @@
 -- The place of an input bit from its place among those of its kind.
 use Rattle.std.proofs.Common.{◌≡◌, ◌<◌, ℕ, zero, suc, Bool, true, false, cond, List, [], ◌∷◌, length, filter, slice_index_or, refl, ap, ◌∙◌, arith, true≢false, sym}
-use Rattle.twin_tape.specs.Tapes.{BitRole, open_bit}
+use Rattle.probe_cones.specs.Inputs.{BitRole, open_bit}
 use Rattle.twin_tape.proofs.Sources.{rank_in}
 
 -- the place of the n-th that passes

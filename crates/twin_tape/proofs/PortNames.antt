@@ -10,7 +10,7 @@ use Rattle.agm_net.specs.WellFormed.{WellFormed}
 use Rattle.agm_net.specs.declared.port.Port.{Port}
 use Rattle.agm_net.specs.declared.port.Range.{Range}
 use Rattle.agm_net.proofs.Lists.{all_joined, all_places, all_of_one}
-use Rattle.twin_tape.specs.Tapes.{BitRole, open_bit, bit_role, port_roles, bit_roles}
+use Rattle.probe_cones.specs.Inputs.{BitRole, open_bit, bit_role, port_roles, bit_roles}
 
 -- a name of a bit: that of its port, or that and a number in brackets
 abbrev pub IsBitName : List ℕ → List ℕ → Type 0

@@ -26,7 +26,7 @@ use Rattle.std.specs.Fmt.{decimal}
 use Rattle.probe_cones.specs.Shares as shares
 use Rattle.probe_cones.specs.Shares.{is_share}
 use Rattle.probe_cones.specs.Cone.{output_bits_of}
-use Rattle.twin_tape.specs.Tapes.{BitRole, Secret, share_bit, open_bit, is_random, bit_roles, roles}
+use Rattle.probe_cones.specs.Inputs.{BitRole, Secret, share_bit, open_bit, is_random, bit_roles, roles}
 use Rattle.twin_tape.specs.Security.{role_at, sees}
 use Rattle.twin_tape.proofs.Bridge.{wire_named, part_is, random_role, other_role, share_kind_is, to_numbers, from_numbers, IsBounded}
 use Rattle.twin_tape.proofs.Heads.{lead, Headed, of_port, of_random, of_share_name, headed_lead, headed_one, not_public, random_label, share_label}

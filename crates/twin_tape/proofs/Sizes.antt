@@ -1,7 +1,9 @@
 -- At most one index is permitted for each probe, beside the listed ones.
 use Rattle.std.proofs.Common.{◌≡◌, ℕ, zero, suc, ◌+◌, ◌-◌, ◌≤◌, Bool, true, false, ◌||◌, cond, List, [], ◌∷◌, ◌++◌, length, nat_eq, leb, refl, sym, ap, ◌∙◌, subst, arith, append_assoc, length-append}
 use Rattle.std.proofs.lemmas.Bool.Decides.{nat_tests}
-use Rattle.twin_tape.specs.Permitted.{Inner, Nobody, One', Sight, begun, grown, has, known, taken, with}
+use Rattle.twin_tape.specs.Permitted.{begun, grown, has, known, taken, with}
+use Rattle.twin_tape.specs.declared.sight.Sight.{Sight}
+use Rattle.twin_tape.specs.declared.sight.Sight.TheVariants.{Inner, Nobody, One as One'}
 
 -- K' is K with at most n new indices in front
 abbrev pub Adds : List ℕ → List ℕ → ℕ → Type 0

@@ -14,7 +14,7 @@ use Rattle.probe_cones.specs.Cone as cone
 use Rattle.agm_net.proofs.Driving.{is_driven, now_is_ever, reads_are_wires, reads_is}
 use Rattle.agm_net.proofs.Ranks.{ranked}
 use Rattle.agm_net.proofs.Runs as runs
-use Rattle.twin_tape.specs.Tapes.{BitRole, open_bit, is_random, bit_role, port_roles, bit_roles, first_bit, joined, with_random, bit_with}
+use Rattle.probe_cones.specs.Inputs.{BitRole, open_bit, is_random, bit_role, port_roles, bit_roles, first_bit, joined, with_random, bit_with}
 
 pub data Source : Type 0 where
   Input : ℕ → Source

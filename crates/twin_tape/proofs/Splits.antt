@@ -1,7 +1,7 @@
 -- A row of input bits is its random bits and the others, in one way.
 use Rattle.std.proofs.Common.{◌≡◌, List, [], ◌∷◌, length, drop, filter, refl, ap, arith}
 use Rattle.agm_net.specs.Trace.{Row}
-use Rattle.twin_tape.specs.Tapes.{BitRole, random_bit, share_bit, open_bit, is_random, joined, picked}
+use Rattle.probe_cones.specs.Inputs.{BitRole, random_bit, share_bit, open_bit, is_random, joined, picked}
 use Rattle.twin_tape.proofs.Sources.{is_other}
 
 pub join_of_split : (rs : List BitRole) (row : Row) → length row ≡ length rs → joined rs (picked is_other rs row) (picked is_random rs row) ≡ row

@@ -18,7 +18,7 @@ use Rattle.agm_net.proofs.OneLabel.{one_label, has_part_label}
 use Rattle.probe_cones.specs.declared.probe.Probe.{Probe}
 use Rattle.twin_tape.specs.Permitted.{AreLabels, has, known, half_change, sights}
 use Rattle.twin_tape.specs.Security.{AreProbes}
-use Rattle.twin_tape.specs.Tapes.{BitRole, random_bit, is_random, share_role, bit_role, port_roles, bit_roles, random_width, bit_with}
+use Rattle.probe_cones.specs.Inputs.{BitRole, random_bit, is_random, share_role, bit_role, port_roles, bit_roles, random_width, bit_with}
 use Rattle.twin_tape.specs.Twin as by_label
 use Rattle.twin_tape.specs.Twin.{AreFactors, is_crossing, is_crossing_kind, crossing_seen, pair_change}
 use Rattle.twin_tape.proofs.Bridge.{part_is}

@@ -13,7 +13,8 @@ use Rattle.twin_tape.proofs.ShareReads.{Sees}
 use Rattle.twin_tape.proofs.Sources.{Random, Ranked, Source, source}
 use Rattle.twin_tape.specs.Laws.{IsCausal, xor_row}
 use Rattle.twin_tape.specs.Permitted.{half_change, has, known}
-use Rattle.twin_tape.specs.Tapes.{IsTape, bit_with, random_width}
+use Rattle.probe_cones.specs.Inputs.{bit_with, random_width}
+use Rattle.twin_tape.specs.Tapes.{IsTape}
 
 abbrev pub tab : ℕ → (ℕ → Bool) → List Bool
 tab zero f = []

@@ -5,7 +5,7 @@ use Rattle.agm_net.specs.Formula.{xor}
 use Rattle.agm_net.specs.Plain.{PlainNet}
 use Rattle.agm_net.specs.Trace.{Row, bit_at}
 use Rattle.probe_cones.specs.declared.probe.Probe.{Probe}
-use Rattle.twin_tape.proofs.Agreement.{Ties}
+use Rattle.twin_tape.proofs.Induction.{Ties}
 use Rattle.twin_tape.proofs.KnownSets.{Splits, both_from, known_older}
 use Rattle.twin_tape.proofs.Network.{IsNetwork, IsTwin, Names, change, half_at, sights_of, stores_seen}
 use Rattle.agm_net.specs.declared.label.PartKind.TheVariants.{A as KA, B as KB}
@@ -14,7 +14,7 @@ use Rattle.twin_tape.proofs.Parts.{PairBit, part_sees}
 use Rattle.twin_tape.proofs.Sources.{Ranked}
 use Rattle.twin_tape.specs.Permitted.{half_change, has, known}
 use Rattle.twin_tape.specs.Security.{role_at, sees}
-use Rattle.twin_tape.specs.Tapes.{BitRole, bit_with, open_bit, random_bit, roles, share_bit}
+use Rattle.probe_cones.specs.Inputs.{BitRole, bit_with, open_bit, random_bit, roles, share_bit}
 
 -- a role that one of the indices sees
 sees_in : (K : List ℕ) (i : ℕ) (role : BitRole) → has K i ≡ true → sees (i ∷ []) role ≡ true → sees K role ≡ true

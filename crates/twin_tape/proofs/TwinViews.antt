@@ -7,7 +7,7 @@ use Rattle.agm_net.specs.Plain.{PlainNet}
 use Rattle.agm_net.specs.Trace.{Row, bit_at}
 use Rattle.probe_cones.specs.Cone.{cone}
 use Rattle.probe_cones.specs.declared.probe.Probe.{Probe}
-use Rattle.twin_tape.proofs.Agreement.{Must, Ties, alike, needs}
+use Rattle.twin_tape.proofs.Induction.{Must, Ties, alike, needs}
 use Rattle.twin_tape.proofs.KnownSets.{At, Splits, begun_old, begun_plain, both_from, known_begun, known_home, known_older, no_other, not_later}
 use Rattle.twin_tape.proofs.Network.{ClockWire, HasPart, IsNetwork, IsTwin, Keeps, Tag, Names, Part, Plain, Public, RandomBit, change, share_of, sight, sights_of, stores_seen}
 use Rattle.agm_net.specs.declared.label.PartKind.{PartKind}
@@ -19,9 +19,11 @@ use Rattle.twin_tape.proofs.Sources.{Clock, Equation, Input, Random, Ranked, Reg
 use Rattle.twin_tape.proofs.TwinTies.{change_none, change_one, ordered, twin_ties}
 use Rattle.twin_tape.proofs.Views.{Seen, cone-ext, list_any_some, map_at, seen_none, seen_step, seen_still, seen_through}
 use Rattle.twin_tape.proofs.Worlds.{Needs}
-use Rattle.twin_tape.specs.Permitted.{Inner, Nobody, Sight, half_change, has, known}
+use Rattle.twin_tape.specs.Permitted.{half_change, has, known}
+use Rattle.twin_tape.specs.declared.sight.Sight.{Sight}
+use Rattle.twin_tape.specs.declared.sight.Sight.TheVariants.{Inner, Nobody}
 use Rattle.twin_tape.specs.Security.{role_at, sees}
-use Rattle.twin_tape.specs.Tapes.{bit_with, random_width, roles}
+use Rattle.probe_cones.specs.Inputs.{bit_with, random_width, roles}
 
 abbrev pub nil_probe : Probe
 nil_probe = record { wire = 0; cycle = 0 }

@@ -6,7 +6,8 @@ use Rattle.twin_tape.proofs.Counting.{sum_causal, sum_tapes-ext}
 use Rattle.agm_net.specs.Trace.{Row}
 use Rattle.twin_tape.specs.Laws.{HasTwins, IsCausal}
 use Rattle.twin_tape.specs.Security.{Pini, pairs, seen}
-use Rattle.twin_tape.specs.Tapes.{IsTape, bit_with, random_width, roles, same_row}
+use Rattle.probe_cones.specs.Inputs.{bit_with, random_width, roles}
+use Rattle.twin_tape.specs.Tapes.{IsTape, same_row}
 
 -- a causal map of random tapes that keeps the observation keeps the count
 pub seen_same : (net : PlainNet) (power : List Bool) (first second : List Row) (probes : List Probe) (A : List ℕ) (T : ℕ) →

@@ -9,7 +9,8 @@ use Rattle.probe_cones.specs.Cone.{observed}
 use Rattle.probe_cones.specs.declared.probe.Probe.{Probe}
 use Rattle.twin_tape.specs.Permitted.{AreLabels, known, permitted, sights}
 use Rattle.twin_tape.specs.Security.{Agree, AreProbes, role_at, sees}
-use Rattle.twin_tape.specs.Tapes.{IsTape, bit_with, random_width, roles}
+use Rattle.probe_cones.specs.Inputs.{bit_with, random_width, roles}
+use Rattle.twin_tape.specs.Tapes.{IsTape}
 use Rattle.twin_tape.specs.Twin.{IsTwin}
 use Rattle.twin_tape.proofs.Blinding.{twisted_tape}
 use Rattle.twin_tape.proofs.Counting.{length-IsTape}

@@ -6,7 +6,8 @@ use Rattle.agm_net.specs.Plain.{PlainNet}
 use Rattle.agm_net.specs.Trace.{Row, row_at}
 use Rattle.probe_cones.specs.Cone.{observed}
 use Rattle.probe_cones.specs.declared.probe.Probe.{Probe}
-use Rattle.twin_tape.specs.Tapes.{tapes, IsTape, roles, random_width, bit_with}
+use Rattle.probe_cones.specs.Inputs.{roles, random_width, bit_with}
+use Rattle.twin_tape.specs.Tapes.{tapes, IsTape}
 use Rattle.twin_tape.specs.Security.{Agree, AreProbes}
 
 -- two rows bit by bit; past the end of the second row the first one stays

@@ -10,14 +10,10 @@ use Rattle.agm_net.specs.declared.label.Part.{Part}
 use Rattle.agm_net.specs.declared.label.PartKind.{PartKind}
 use Rattle.agm_net.specs.declared.label.PartKind.TheVariants.{R, Rr, Vx}
 use Rattle.probe_cones.specs.declared.probe.Probe.{Probe}
+use Rattle.twin_tape.specs.declared.sight.Sight.{Sight}
+use Rattle.twin_tape.specs.declared.sight.Sight.TheVariants.{Nobody, One as One', Inner}
 
--- Whom a probe concerns: no one, one share, or one pair of one gadget with a home index. An inner probe has a stage, one more than its start.
-pub data Sight : Type 0 where
-  Nobody : Sight
-  One' : ℕ → Sight
-  Inner : (gadget i j stage home : ℕ) → Sight
-
--- The sight of a probe in cycle t, by the label of its wire. A random bit and what it masks start in their own cycle, and what is
+-- Whom a probe in cycle t concerns, by the label of its wire. A random bit and what it masks start in their own cycle, and what is
 -- stored, or reads what is stored, one cycle before. The home is the index whose other factor is seen, or the smaller one.
 abbrev pub inner_sight : PartKind → Part → ℕ → Sight
 inner_sight R p t = Inner p.gadget p.i p.j (suc t) p.i

@@ -7,7 +7,8 @@ use Rattle.agm_net.specs.Plain.{PlainNet}
 use Rattle.agm_net.specs.Trace.{Row, row_at, bit_at}
 use Rattle.probe_cones.specs.Cone.{observed}
 use Rattle.probe_cones.specs.declared.probe.Probe.{Probe}
-use Rattle.twin_tape.specs.Tapes.{tapes, IsTape, same_row, Secret, same_secret, BitRole, random_bit, share_bit, open_bit, roles, random_width, bit_with}
+use Rattle.probe_cones.specs.Inputs.{Secret, same_secret, BitRole, random_bit, share_bit, open_bit, roles, random_width, bit_with}
+use Rattle.twin_tape.specs.Tapes.{tapes, IsTape, same_row}
 
 -- how many random tapes of T rows give the observation o
 abbrev pub seen : PlainNet → ℕ → (power : Row) → (inputs : List Row) → List Probe → List ℕ → Row → ℕ

@@ -12,7 +12,7 @@ use Rattle.agm_net.specs.declared.label.PartKind.{PartKind}
 use Rattle.agm_net.specs.declared.label.PartKind.TheVariants.{A as KA, B as KB, V as KV, Wx as KWx}
 use Rattle.probe_cones.specs.declared.probe.Probe.{Probe}
 use Rattle.twin_tape.specs.Permitted.{has, known, sights, half_change}
-use Rattle.twin_tape.specs.Tapes.{bit_with}
+use Rattle.probe_cones.specs.Inputs.{bit_with}
 
 -- whether a wire stores the masked factor of the gadget's indices h and o, or is its product
 abbrev pub is_crossing_kind : PartKind → Bool

@@ -1,16 +1,18 @@
 //! Laws about the definitions, which proofs above cite.
 
-ghost use Rattle.std.specs.Prelude.{◌≡◌, ◌≤◌, ◌++◌, ℕ, List, length, count_by};
+ghost use Rattle.std.specs.Prelude.{◌≡◌, ◌≤◌, ◌<◌, ◌++◌, ℕ, All, IsTrue, List, length, count_by};
 ghost use Rattle.agm_net.specs.Network.{Hpc2};
 ghost use Rattle.agm_net.specs.Plain.{PlainNet};
 ghost use Rattle.agm_net.specs.Trace.{Row};
 ghost use Rattle.agm_net.specs.WellFormed.{WellFormed};
 ghost use Rattle.agm_net.specs.declared.label.Label.{Label};
 ghost use Rattle.probe_cones.specs.declared.probe.Probe.{Probe};
+ghost use Rattle.twin_tape.specs.Allowed.{allowed};
 ghost use Rattle.twin_tape.specs.Laws.{SumsStay, BijectedCounts, HasTwins};
-ghost use Rattle.twin_tape.specs.Permitted.{AreLabels, permitted, sights};
+ghost use Rattle.twin_tape.specs.Permitted.{AreLabels, has, permitted, sights};
 ghost use Rattle.twin_tape.specs.Security.{Agree, AreProbes, Blind, IsWhole, Pini, seen};
-ghost use Rattle.twin_tape.specs.Tapes.{IsTape, tapes, same_tape, bit_roles, roles, random_width, joined, random_of, others_of};
+ghost use Rattle.probe_cones.specs.Inputs.{bit_roles, roles, random_width, joined, random_of, others_of};
+ghost use Rattle.twin_tape.specs.Tapes.{IsTape, tapes, same_tape};
 
 /// Each tape of T rows of R bits is counted once.
 pub fn each_tape_once()
@@ -70,4 +72,22 @@ pub fn permitted_isolate()
         (T : ℕ) (probes : List Probe) (A : List ℕ) → AreProbes net T probes →
         (power : Row) (first second : List Row) → IsTape (length (roles net)) T first → Agree net (permitted (sights label probes) A T) first second →
         (o : Row) → seen net T power first probes A o ≡ seen net T power second probes A o }
+{}
+
+/// And for inputs that agree on a list with all permitted indices, in whichever order it has them.
+pub fn allowed_isolate()
+    ensures { (net : PlainNet) (d : ℕ) (label : ℕ → Label) → WellFormed net → Hpc2 net d → AreLabels net d label →
+        (T : ℕ) (probes : List Probe) (A known : List ℕ) → AreProbes net T probes →
+        ((i : ℕ) → IsTrue (has (permitted (sights label probes) A T) i) → IsTrue (has known i)) →
+        (power : Row) (first second : List Row) → IsTape (length (roles net)) T first → Agree net known first second →
+        (o : Row) → seen net T power first probes A o ≡ seen net T power second probes A o }
+{
+    permitted_isolate();
+}
+
+/// The permitted indices up to the order are all of them, where the listed indices are at most the order.
+pub fn allowed_are_all()
+    ensures { (net : PlainNet) (d : ℕ) (label : ℕ → Label) → AreLabels net d label → (T : ℕ) (probes : List Probe) (A : List ℕ) →
+        All (λ p. p.wire < length net.wires) probes → All (λ i. i ≤ d) A →
+        (i : ℕ) → IsTrue (has (permitted (sights label probes) A T) i) → IsTrue (has (allowed d label probes A T) i) }
 {}

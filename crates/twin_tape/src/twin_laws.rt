@@ -10,7 +10,8 @@ ghost use Rattle.probe_cones.specs.Cone.{observed};
 ghost use Rattle.probe_cones.specs.declared.probe.Probe.{Probe};
 ghost use Rattle.twin_tape.specs.Permitted.{AreLabels, permitted, sights};
 ghost use Rattle.twin_tape.specs.Security.{Agree, AreProbes};
-ghost use Rattle.twin_tape.specs.Tapes.{IsTape, bit_with, random_width, roles};
+ghost use Rattle.probe_cones.specs.Inputs.{bit_with, random_width, roles};
+ghost use Rattle.twin_tape.specs.Tapes.{IsTape};
 ghost use Rattle.twin_tape.specs.Twin.{IsTwin};
 
 /// Each random tape has a twin.

@@ -1,4 +1,4 @@
-use Rattle.twin_tape.specs.Tapes.{bit_roles}
+use Rattle.probe_cones.specs.Inputs.{bit_roles}
 use Rattle.twin_tape.proofs.Splits.{others_of_join, random_of_join}
 use Rattle.twin_tape.proofs.laws.joined_and_split.Goals as goal
 

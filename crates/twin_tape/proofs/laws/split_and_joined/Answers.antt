@@ -1,4 +1,4 @@
-use Rattle.twin_tape.specs.Tapes.{bit_roles}
+use Rattle.probe_cones.specs.Inputs.{bit_roles}
 use Rattle.twin_tape.proofs.Splits.{join_of_split}
 use Rattle.twin_tape.proofs.laws.split_and_joined.Goals as goal
 
