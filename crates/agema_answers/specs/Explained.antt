@@ -8,13 +8,15 @@ use Rattle.cell_library.specs.declared.types.Bar.{Bar}
 use Rattle.cell_library.specs.declared.types.Bar.TheVariants.{Bus, Latch, StateTable, Bank, TwoStates, DoublePin, Direction, ThreeState, AsyncControl, ClockShape, NoFunction, FunctionText, UnknownName}
 use Rattle.cell_library.specs.declared.types.CellCause.{CellCause}
 use Rattle.cell_library.specs.declared.types.CellCause.TheVariants.{Duplicate, Reserved}
+use Rattle.masked_writer.specs.declared.fault.ReportCause.{ReportCause}
+use Rattle.masked_writer.specs.declared.fault.ReportCause.TheVariants as report
 use Rattle.stimulus.specs.declared.fault.StimulusCause.{StimulusCause}
 use Rattle.stimulus.specs.declared.fault.StimulusCause.TheVariants.{Json, Shape, Streams, Steps, Initial, Inputs, Bits, Cycles}
 use Rattle.agema_answers.specs.Status.{status_of}
 use Rattle.agema_answers.specs.declared.ended.Ended.{Ended}
 use Rattle.agema_answers.specs.declared.ended.Ended.TheVariants.{Done, Usage, ReadFault, WriteFault, PrintFault, Memory, Refused}
 use Rattle.agema_answers.specs.declared.refusal.Refusal.{Refusal}
-use Rattle.agema_answers.specs.declared.refusal.Refusal.TheVariants.{TooLong, LibrarySyntax, Cell, NetSyntax, UnknownCell, UnknownPin, UnknownWire, Driven, Width, Top, Recursive, BarredCell, Clash, Loop, BadAnnotation, TooLarge, BadStimulus, NotBuilt}
+use Rattle.agema_answers.specs.declared.refusal.Refusal.TheVariants.{TooLong, LibrarySyntax, Cell, NetSyntax, UnknownCell, UnknownPin, UnknownWire, Driven, Width, Top, Recursive, BarredCell, Clash, Loop, BadAnnotation, Leak, TooLarge, TooWide, BadReport, BadStimulus, NotBuilt}
 
 abbrev pub Text : Type 0
 Text = List ℕ
@@ -37,6 +39,12 @@ bar_text ClockShape = codes "ClockShape"
 bar_text NoFunction = codes "NoFunction"
 bar_text FunctionText = codes "FunctionText"
 bar_text UnknownName = codes "UnknownName"
+
+abbrev pub report_cause_text : ReportCause → Text
+report_cause_text report.Json = codes "Json"
+report_cause_text report.Shape = codes "Shape"
+report_cause_text report.Version = codes "Version"
+report_cause_text report.Range = codes "Range"
 
 abbrev pub stimulus_cause_text : StimulusCause → Text
 stimulus_cause_text Json = codes "Json"
@@ -87,7 +95,10 @@ refusal_text (BarredCell instance cell cause) = codes "BarredCell" ++ (field (co
 refusal_text (Clash name) = codes "Clash" ++ field (codes "name") name
 refusal_text (Loop wires) = codes "Loop" ++ field (codes "wires") (joined wires)
 refusal_text (BadAnnotation fault) = codes "BadAnnotation" ++ field (codes "fault") (annotation_text fault)
+refusal_text (Leak port) = codes "Leak" ++ field (codes "port") port
 refusal_text (TooLarge operators) = codes "TooLarge" ++ number (codes "operators") operators
+refusal_text (TooWide bits) = codes "TooWide" ++ number (codes "bits") bits
+refusal_text (BadReport cause) = codes "BadReport" ++ field (codes "cause") (report_cause_text cause)
 refusal_text (BadStimulus cause stream step) = codes "BadStimulus" ++ (field (codes "cause") (stimulus_cause_text cause) ++ (number (codes "stream") stream ++ number (codes "step") step))
 refusal_text NotBuilt = codes "NotBuilt"
 

@@ -3,7 +3,7 @@ use Rattle.std.specs.Prelude.{ℕ}
 use Rattle.agema_answers.specs.declared.ended.Ended.{Ended}
 use Rattle.agema_answers.specs.declared.ended.Ended.TheVariants.{Done, Usage, ReadFault, WriteFault, PrintFault, Memory, Refused}
 use Rattle.agema_answers.specs.declared.refusal.Refusal.{Refusal}
-use Rattle.agema_answers.specs.declared.refusal.Refusal.TheVariants.{TooLong, LibrarySyntax, Cell, NetSyntax, UnknownCell, UnknownPin, UnknownWire, Driven, Width, Top, Recursive, BarredCell, Clash, Loop, BadAnnotation, TooLarge, BadStimulus, NotBuilt}
+use Rattle.agema_answers.specs.declared.refusal.Refusal.TheVariants.{TooLong, LibrarySyntax, Cell, NetSyntax, UnknownCell, UnknownPin, UnknownWire, Driven, Width, Top, Recursive, BarredCell, Clash, Loop, BadAnnotation, Leak, TooLarge, TooWide, BadReport, BadStimulus, NotBuilt}
 
 abbrev pub refusal_status : Refusal → ℕ
 refusal_status (TooLong file) = 10
@@ -19,11 +19,14 @@ refusal_status (Top candidates) = 19
 refusal_status (Recursive name) = 19
 refusal_status (Loop wires) = 20
 refusal_status (BadAnnotation fault) = 21
+refusal_status (Leak port) = 22
 refusal_status (TooLarge operators) = 23
+refusal_status (BadReport cause) = 24
 refusal_status (BadStimulus cause stream step) = 25
 refusal_status (BarredCell instance cell cause) = 29
 refusal_status (Clash name) = 30
 refusal_status NotBuilt = 31
+refusal_status (TooWide bits) = 35
 
 abbrev pub status_of : Ended → ℕ
 status_of Done = 0

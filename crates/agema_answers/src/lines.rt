@@ -7,6 +7,7 @@ use crate::{Ended, Refusal};
 use agm_bits::{List, Memory, Name};
 use annotations::AnnotationFault;
 use cell_library::{Bar, CellCause};
+use masked_writer::ReportCause;
 use std::alloc::Global;
 use stimulus::StimulusCause;
 
@@ -36,6 +37,17 @@ fn bar_text(bar: Bar) -> &'static [u8]
         Bar::NoFunction => b"NoFunction",
         Bar::FunctionText => b"FunctionText",
         Bar::UnknownName => b"UnknownName",
+    }
+}
+
+fn report_cause_text(cause: ReportCause) -> &'static [u8]
+    ensures { result.now ≡ spec.report_cause_text cause }
+{
+    match cause {
+        ReportCause::Json => b"Json",
+        ReportCause::Shape => b"Shape",
+        ReportCause::Version => b"Version",
+        ReportCause::Range => b"Range",
     }
 }
 
@@ -245,7 +257,15 @@ fn refusal_text(alloc: Global, refusal: &Refusal) -> Result<Name, Memory>
         Refusal::Clash { name } => one_field(alloc, b"Clash", b"name", name.as_slice()),
         Refusal::Loop { wires } => loop_text(alloc, wires.as_slice()),
         Refusal::BadAnnotation { fault } => bad_annotation_text(alloc, *fault),
+        Refusal::Leak { port } => one_field(alloc, b"Leak", b"port", port.as_slice()),
         Refusal::TooLarge { operators } => one_number(alloc, b"TooLarge", b"operators", *operators),
+        Refusal::TooWide { bits } => one_number(alloc, b"TooWide", b"bits", *bits),
+        Refusal::BadReport { cause } => one_field(
+            alloc,
+            b"BadReport",
+            b"cause",
+            report_cause_text(*cause),
+        ),
         Refusal::BadStimulus {
             cause,
             stream,
@@ -300,11 +320,14 @@ impl Refusal {
             Refusal::Recursive { .. } => 19,
             Refusal::Loop { .. } => 20,
             Refusal::BadAnnotation { .. } => 21,
+            Refusal::Leak { .. } => 22,
             Refusal::TooLarge { .. } => 23,
+            Refusal::BadReport { .. } => 24,
             Refusal::BadStimulus { .. } => 25,
             Refusal::BarredCell { .. } => 29,
             Refusal::Clash { .. } => 30,
             Refusal::NotBuilt => 31,
+            Refusal::TooWide { .. } => 35,
         }
     }
 }

@@ -1,6 +1,7 @@
 use agm_bits::{List, Name};
 use annotations::AnnotationFault;
 use cell_library::{Bar, CellCause};
+use masked_writer::ReportCause;
 use stimulus::StimulusCause;
 
 /// Why an input is refused.
@@ -73,9 +74,21 @@ pub enum Refusal {
     BadAnnotation {
         fault: AnnotationFault,
     },
+    /// An output port that is marked public has a secret bit: the first such port.
+    Leak {
+        port: Name,
+    },
     /// The operators of the net times shares squared exceed 2^16.
     TooLarge {
         operators: usize,
+    },
+    /// The greatest of the numbers of random bits, of public and of secret registers exceeds 2^16.
+    TooWide {
+        bits: usize,
+    },
+    /// The text is no report.
+    BadReport {
+        cause: ReportCause,
     },
     /// The stimulus is wrong, at this stream and step.
     BadStimulus {

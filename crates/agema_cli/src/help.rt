@@ -19,8 +19,7 @@ pub(crate) const HELP: &str =
   for example:  agema mask - examples/parity.v 1 naive pipe parity_masked.v
 
     It prints one line: order, mode, balance, gadgets, random bits a cycle, latency and period in cycles, streams.
-    Built so far: naive and pipe, and netlists of inverters and exclusive ors, or of one product of two inputs, every
-    input secure, without registers (docs/FORMATS.md, \"Simple nets\").
+    Built so far: naive and pipe.
 
   agema sim LIB NET STIM
 
@@ -29,6 +28,10 @@ pub(crate) const HELP: &str =
   for example:  agema sim - examples/toggle.v examples/toggle.json
 
     It runs the netlist cycle by cycle, and prints a line for each stream and step with the output ports' bits.
+
+  agema report OUT
+
+    It prints the line of mask again, by the report beside OUT.
 
   agema --help       prints this
   agema --version    prints the version
@@ -42,8 +45,8 @@ exit status
    6  standard output could not be written
    7  a word of the command line is not text
   10  a file is longer than 268,435,456 bytes
-  11  the cell library is spelled wrongly
-  12  the netlist is spelled wrongly
+  11  the cell library has a syntax error
+  12  the netlist has a syntax error
   13  a cell of the library has the name of an earlier one, or one that begins with AGM_
   14  an instance's cell is not known
   15  an instance's cell has no such pin
@@ -53,11 +56,14 @@ exit status
   19  there is not one top module, or a module is inside itself
   20  the netlist has a loop
   21  the marks of ports or the use of the clock are wrong
+  22  an output that is marked public has a secret bit
   23  the design is too large: its operators times shares squared exceed 65,536
+  24  the report is wrong
   25  the stimulus is wrong
   29  a cell of the library cannot be used
   30  a name is taken
   31  what is asked for is not built yet
+  35  the design is too wide: it wants more than 65,536 random bits, or has more public or secret registers
 
 A status other than 0 comes with a line on standard error that says why.
 ";

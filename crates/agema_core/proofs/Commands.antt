@@ -10,7 +10,7 @@ use Rattle.share_wiring.specs.declared.report.Mode.TheVariants.{Naive, Aig, Bdd}
 use Rattle.share_wiring.specs.declared.report.Balance.{Balance}
 use Rattle.share_wiring.specs.declared.report.Balance.TheVariants.{Pipe, Gate}
 use Rattle.masked_writer.specs.Report.{mode_text, balance_text}
-use Rattle.agema_core.specs.Words.{Mask, Sim, IsOrder, IsMask, IsSim, Request, mask, sim, Asks}
+use Rattle.agema_core.specs.Words.{Mask, Sim, IsOrder, IsMask, IsSim, Reporting, IsReporting, Request, mask, sim, reporting, Asks}
 use Rattle.agema_core.specs.Command.{◌>>=◌, order_of, mode_of, balance_of, is_filled, are_names, parts_of, mask_request, command_of}
 
 -- the two ways of a choice
@@ -137,9 +137,14 @@ sim_read words s is =
     let stimulus = some_filled s.stimulus is.has_stimulus in
     ap command_of is.words_are ∙ rw (library, net, stimulus) refl
 
+-- those of a `report` command are read as it
+report_read : (words : List (List ℕ)) (r : Reporting) → IsReporting words r → command_of words ≡ Some (reporting r)
+report_read words r is = let out = some_filled r.out is.has_out in ap command_of is.words_are ∙ rw out refl
+
 pub command_read : (words : List (List ℕ)) (r : Request) → Asks words r → command_of words ≡ Some r
 command_read words (mask m) is = mask_read words m is
 command_read words (sim s) is = sim_read words s is
+command_read words (reporting r) is = report_read words r is
 
 -- what names that are none is not empty
 names_are : (own command first second third : List ℕ) → are_names own command first second third ≡ true
@@ -186,6 +191,19 @@ read_command (command ∷ library ∷ net ∷ stimulus ∷ []) r h =
             has_stimulus = names.3;
           } in
           subst (Asks (command ∷ library ∷ net ∷ stimulus ∷ [])) same is)
+      | inr n ↦ (let e = n.1 in cc)
+    ]
+read_command (command ∷ out ∷ []) r h =
+    elim (chosen (bytes_eq command (codes "report") && is_filled out) (Some (reporting (record { out = out }))) None (Some r) h) [
+      | inl y ↦ (
+          let parts = both (bytes_eq command (codes "report")) (is_filled out) y.0 in
+          let t : Reporting = record { out = out } in
+          let same : reporting t ≡ r = (let e = y.1 in cc) in
+          let is : IsReporting (command ∷ out ∷ []) t = record {
+            words_are = ap (λ w. w ∷ out ∷ []) (same_bytes command (codes "report") parts.0);
+            has_out = filled_some out parts.1;
+          } in
+          subst (Asks (command ∷ out ∷ [])) same is)
       | inr n ↦ (let e = n.1 in cc)
     ]
 read_command _ r h = cc

@@ -5,16 +5,17 @@ use Rattle.agm_shelf.specs.Shelf.{Contents}
 use Rattle.cell_library.specs.Judged.{PlainCell}
 use Rattle.cell_library.specs.Spelled.{Spelled, cell_name, first_fault}
 use Rattle.agema_texts.specs.Original.{EndsBy, length_limit}
-use Rattle.agema_texts.specs.Masks.{Masks, CanMask, IsUnmasked}
+use Rattle.agema_texts.specs.Masks.{Masks, CanMask, IsWithin, IsUnmasked}
 use Rattle.agema_texts.proofs.Ends.{of_binding}
+use Rattle.agema_texts.specs.Reported.{CanReport, IsBadReport}
 use Rattle.agema_texts.specs.Sims.{CanSim, IsClocked, IsUnclocked, IsUndriven, IsBadStimulus, IsSimulated, Sims}
 use Rattle.agema_answers.specs.declared.ended.Ended.{Ended}
 use Rattle.agema_answers.specs.declared.ended.Ended.TheVariants.{Done, Usage, ReadFault, WriteFault, PrintFault, Memory, Refused}
 use Rattle.agema_answers.specs.declared.refusal.Refusal.{Refusal}
-use Rattle.agema_answers.specs.declared.refusal.Refusal.TheVariants.{TooLong, LibrarySyntax, Cell, BadStimulus}
-use Rattle.agema_core.specs.Words.{Mask, Sim, Request, mask, sim, Asks, HasOrder}
+use Rattle.agema_answers.specs.declared.refusal.Refusal.TheVariants.{TooLong, LibrarySyntax, Cell, BadReport, BadStimulus}
+use Rattle.agema_core.specs.Words.{Mask, Sim, Reporting, Request, mask, sim, reporting, Asks, HasOrder}
 use Rattle.agema_core.specs.Found.{Counts, Found, Holds, Told, IsTooLong, IsDash, IsLibrary, IsNoLibrary, HasWrongCell, IsWrongLibrary, AreCells, HoldsBoth, ToldBoth, IsLibraryEnd, IsInputEnd, IsReadEnd, IsPrintEnd}
-use Rattle.agema_core.specs.Answer.{HasCause, AtLibraryOr, MaskFits, SimFits, IsRunnable, IsMaskEnd, IsSimEnd, IsComplete, NothingFails}
+use Rattle.agema_core.specs.Answer.{HasCause, AtLibraryOr, MaskFits, IsMasked, SimFits, IsRunnable, IsMaskEnd, IsSimEnd, IsReportEnd, report_name, IsComplete, NothingFails}
 use Rattle.agema_core.specs.Left.{IsDelivery}
 
 -- the words of a command are not refused as words
@@ -23,6 +24,9 @@ mask_not_usage m f before now ended h e = let P : Ended → Type 0 = λ x. IsMas
 
 sim_not_usage : (s : Sim) (f : Found) (before now : Counts) (ended : Ended) → IsSimEnd s f before now ended → ended ≡ Usage → Prim.⊥
 sim_not_usage s f before now ended h e = let P : Ended → Type 0 = λ x. IsSimEnd s f before now x in subst P e h
+
+report_not_usage : (r : Reporting) (f : Found) (before now : Counts) (ended : Ended) → IsReportEnd r f before now ended → ended ≡ Usage → Prim.⊥
+report_not_usage r f before now ended h e = let P : Ended → Type 0 = λ x. IsReportEnd r f before now x in subst P e h
 
 library_not_usage : (name : List ℕ) (tells sound : Bool) (held : Option (List ℕ)) (before now : ℕ) (ended : Ended) → IsLibraryEnd name tells sound held before now ended → ended ≡ Usage → Prim.⊥
 library_not_usage name tells sound held before now ended h e = let P : Ended → Type 0 = λ x. IsLibraryEnd name tells sound held before now x in subst P e h
@@ -33,6 +37,7 @@ not_usage (mask m) f before now ended (inr (built, inl at)) e = library_not_usag
 not_usage (mask m) f before now ended (inr (built, inr behind)) e = mask_not_usage m f before now ended behind.1 e
 not_usage (sim s) f before now ended (inl at) e = library_not_usage s.library f.tells f.sound (f.holds s.library) before.reads now.reads ended at.1 e
 not_usage (sim s) f before now ended (inr behind) e = sim_not_usage s f before now ended behind.1 e
+not_usage (reporting r) f before now ended h e = report_not_usage r f before now ended h e
 
 -- what is told of the text that is held
 told_of : (tells : Bool) (held : Option (List ℕ)) (Fact : List ℕ → Type 0) (text : List ℕ) → held ≡ Some text → IsTrue tells → Told tells held Fact → Fact text
@@ -119,7 +124,7 @@ pub record RunsOnce : Type 0 where
 
 -- the text of an original is not too long
 short_original : (m : Mask) (cells : List PlainCell) (text : List ℕ) → MaskFits m cells text → length text ≤ length_limit
-short_original m cells text (net, marks, is, fits, served) = is.read.short
+short_original m cells text (net, marks, is, no_leak, fits, narrow) = is.read.short
 
 -- a netlist that can be masked is not refused
 mask_not_refused : (m : Mask) (f : Found) (before now : Counts) (refusal : Refusal) → SpellsOnce → MaskedOnce → IsTrue f.tells → HoldsBoth m.library m.net f.holds (MaskFits m) → IsMaskEnd m f before now (Refused refusal) → Prim.⊥
@@ -197,13 +202,43 @@ sim_completes s f before now PrintFault once runs sound end held nothing = elim 
 sim_completes s f before now (Refused refusal) once runs sound end held nothing =
     absurd (sim_not_refused s f before now refusal once runs (tells_of f before now sound nothing) held end)
 
+-- by the law that a text states one report at most
+abbrev pub ReadsOnce : Type 0
+ReadsOnce = (text : List ℕ) (refusal : Refusal) → CanReport text → IsBadReport text refusal → Prim.⊥
+
+-- a text that states a report is not refused
+report_not_refused : (r : Reporting) (f : Found) (before now : Counts) (refusal : Refusal) → ReadsOnce → IsTrue f.tells → Holds (f.holds (report_name r.out)) CanReport → IsReportEnd r f before now (Refused refusal) → Prim.⊥
+report_not_refused r f before now (TooLong file) once tells (text, is, can) end =
+    let long = told_of f.tells (f.holds (report_name r.out)) IsTooLong text is tells end.1 in
+    let short = can.1.0 in
+    absurd (omega arith)
+report_not_refused r f before now refusal once tells (text, is, can) end =
+    once text refusal can (told_of f.tells (f.holds (report_name r.out)) (λ text. IsBadReport text refusal) text is tells end)
+
+report_completes : (r : Reporting) (f : Found) (before now : Counts) (ended : Ended) → ReadsOnce → (IsTrue f.sound → IsTrue f.tells) → IsReportEnd r f before now ended → Holds (f.holds (report_name r.out)) CanReport → NothingFails f before now → (ended ≡ Done) ⊎ (ended ≡ Memory)
+report_completes r f before now Done once sound end held nothing = inl refl
+report_completes r f before now Memory once sound end held nothing = inr refl
+report_completes r f before now Usage once sound end held nothing = absurd end
+report_completes r f before now (WriteFault file) once sound end held nothing = absurd end
+report_completes r f before now (ReadFault file) once sound end held nothing = elim nothing [
+  | inl counts ↦ absurd (counts.1.reads end.1.0)
+  | inr sure ↦ (let none = end.1.1 sure.0 in let some = held.1 in cc)
+]
+report_completes r f before now PrintFault once sound end held nothing = elim nothing [
+  | inl counts ↦ absurd (counts.1.prints end.1.0)
+  | inr sure ↦ absurd (end.1.1 sure.1)
+]
+report_completes r f before now (Refused refusal) once sound end held nothing =
+    absurd (report_not_refused r f before now refusal once (tells_of f before now sound nothing) held end)
+
 -- completeness follows from the causes
-pub completes : (r : Request) (f : Found) (before now : Counts) (ended : Ended) → SpellsOnce → MaskedOnce → RunsOnce → (IsTrue f.sound → IsTrue f.tells) → HasCause r f before now ended → IsComplete r f before now ended
-completes (mask m) f before now ended once masked runs sound (inl words) (built, held) nothing = absurd (words.0 built)
-completes (mask m) f before now ended once masked runs sound (inr (is, inl (named, at))) (built, (cells, are, text)) nothing = at_library m.library f before now ended cells once sound named at are nothing
-completes (mask m) f before now ended once masked runs sound (inr (is, inr (has, behind))) (built, held) nothing = mask_completes m f before now ended once masked sound behind held nothing
-completes (sim s) f before now ended once masked runs sound (inl (named, at)) (cells, are, text) nothing = at_library s.library f before now ended cells once sound named at are nothing
-completes (sim s) f before now ended once masked runs sound (inr (has, behind)) held nothing = sim_completes s f before now ended once runs sound behind held nothing
+pub completes : (r : Request) (f : Found) (before now : Counts) (ended : Ended) → SpellsOnce → MaskedOnce → RunsOnce → ReadsOnce → (IsTrue f.sound → IsTrue f.tells) → HasCause r f before now ended → IsComplete r f before now ended
+completes (mask m) f before now ended once masked runs reads sound (inl words) (built, held) nothing = absurd (words.0 built)
+completes (mask m) f before now ended once masked runs reads sound (inr (is, inl (named, at))) (built, (cells, are, text)) nothing = at_library m.library f before now ended cells once sound named at are nothing
+completes (mask m) f before now ended once masked runs reads sound (inr (is, inr (has, behind))) (built, held) nothing = mask_completes m f before now ended once masked sound behind held nothing
+completes (sim s) f before now ended once masked runs reads sound (inl (named, at)) (cells, are, text) nothing = at_library s.library f before now ended cells once sound named at are nothing
+completes (sim s) f before now ended once masked runs reads sound (inr (has, behind)) held nothing = sim_completes s f before now ended once runs sound behind held nothing
+completes (reporting r) f before now ended once masked runs reads sound end held nothing = report_completes r f before now ended reads sound end held nothing
 
 -- what was read is told of LIB and NET
 pub told_both : (library net : List ℕ) (f : Found) (Fact : List PlainCell → List ℕ → Type 0) (cells : List PlainCell) (text : List ℕ) → (IsTrue f.tells → AreCells library f.holds cells) → (IsTrue f.tells → f.holds net ≡ Some text) → Fact cells text → ToldBoth library net f Fact
@@ -218,7 +253,7 @@ refused_mask m f before now cells text are is (Refused refusal) h = told_both m.
 refused_mask m f before now cells text are is _ h = absurd h
 
 -- where the writing and the printing end `mask`
-pub delivered_end : (m : Mask) (f : Found) (before now : Counts) (mid : ℕ) → before.writes ≤ mid → ToldBoth m.library m.net f (MaskFits m) → (ended : Ended) → IsDelivery m.out f.sound f.prints mid now.writes before.prints now.prints ended → IsMaskEnd m f before now ended
+pub delivered_end : (m : Mask) (f : Found) (before now : Counts) (mid : ℕ) → before.writes ≤ mid → ToldBoth m.library m.net f (IsMasked m) → (ended : Ended) → IsDelivery m.out f.sound f.prints mid now.writes before.prints now.prints ended → IsMaskEnd m f before now ended
 delivered_end m f before now mid le fit Done d = fit
 delivered_end m f before now mid le fit (WriteFault file) d = (fit, d.0, ((let rose = d.1.0 in omega arith), d.1.1))
 delivered_end m f before now mid le fit PrintFault d = (fit, d)
@@ -291,9 +326,9 @@ read_end_over name t u s v h k before now ended tells sounds holds end =
     let C : Option (List ℕ) → Type 0 = λ o. IsReadEnd name u v o before now ended in
     subst C holds (subst B sounds (subst A tells end))
 
--- what is masked can be masked
-pub can_mask : (cells : List PlainCell) (text : List ℕ) (order : ℕ) (out file line : List ℕ) → Masks cells text order out file line → CanMask cells text order
-can_mask cells text order out file line masks = (masks.original, masks.marks, masks.is_original, masks.fits, masks.served)
+-- what is masked is within the limits
+pub is_within : (cells : List PlainCell) (text : List ℕ) (order : ℕ) (out file line : List ℕ) → Masks cells text order out file line → IsWithin cells text order
+is_within cells text order out file line masks = (masks.original, masks.marks, masks.is_original, masks.no_leak, masks.fits, masks.narrow)
 
 -- what was read and simulated is told of LIB, NET and STIM
 pub told_stimulus : (s : Sim) (f : Found) (cells : List PlainCell) (text drive printed : List ℕ) (net : PlainNet) → (IsTrue f.tells → AreCells s.library f.holds cells) → (IsTrue f.tells → f.holds s.net ≡ Some text) → (IsTrue f.tells → f.holds s.stimulus ≡ Some drive)
@@ -311,8 +346,30 @@ sims_told s told old cells text drive whole printed net e are is drives clocked 
 pub order_fits : (words : List (List ℕ)) (r : Request) → Asks words r → HasOrder r
 order_fits words (mask m) is = is.order_fits
 order_fits words (sim s) is = tt
+order_fits words (reporting r) is = tt
 
 pub runs_once : ((cells : List PlainCell) (bytes : List ℕ) (m n : PlainNet) → IsClocked cells bytes m → IsClocked cells bytes n → m ≡ n)
     → ((cells : List PlainCell) (bytes : List ℕ) (net : PlainNet) (refusal : Refusal) → IsClocked cells bytes net → IsUnclocked cells bytes refusal → Prim.⊥)
     → ((cells : List PlainCell) (bytes stimulus : List ℕ) (refusal : Refusal) → CanSim cells bytes stimulus → IsUndriven cells bytes stimulus refusal → Prim.⊥) → RunsOnce
 runs_once net clocked driven = record { net = net; clocked = clocked; driven = driven }
+
+-- where the reading of the report's file ends `report`
+pub unread_report : (r : Reporting) (f : Found) (before now : Counts) (ended : Ended) → IsReadEnd (report_name r.out) f.tells f.sound (f.holds (report_name r.out)) before.reads now.reads ended → IsReportEnd r f before now ended
+unread_report r f before now (ReadFault file) h = h
+unread_report r f before now Memory h = tt
+unread_report r f before now (Refused (TooLong file)) h = h
+unread_report r f before now _ h = absurd h
+
+-- a text that is no report ends `report`
+pub refused_report : (r : Reporting) (f : Found) (before now : Counts) (text : List ℕ) → (IsTrue f.tells → f.holds (report_name r.out) ≡ Some text) → (ended : Ended) → EndsBy (IsBadReport text) ended → IsReportEnd r f before now ended
+refused_report r f before now text is Memory h = tt
+refused_report r f before now text is (Refused (BadReport cause)) h = λ t. (text, is t, h)
+refused_report r f before now text is (Refused _) h = absurd h
+refused_report r f before now text is _ h = absurd h
+
+-- where the printing ends `report`
+pub line_end : (r : Reporting) (f : Found) (before now : Counts) → Told f.tells (f.holds (report_name r.out)) CanReport → (ended : Ended) → IsPrintEnd f.prints before.prints now.prints ended → IsReportEnd r f before now ended
+line_end r f before now can Done d = can
+line_end r f before now can PrintFault d = (can, d)
+line_end r f before now can Memory d = tt
+line_end r f before now can _ d = absurd d

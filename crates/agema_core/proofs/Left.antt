@@ -3,12 +3,13 @@ use Rattle.std.proofs.Common.{◌≡◌, ◌≢◌, ◌++◌, ℕ, List, [], ◌
 use Rattle.agm_shelf.specs.Shelf.{Contents, AllStay, IsFrontOrOld, TakesFront}
 use Rattle.cell_library.specs.Judged.{PlainCell}
 use Rattle.agema_texts.specs.Masks.{Masks}
+use Rattle.agema_texts.specs.Reported.{Reports}
 use Rattle.agema_texts.specs.Sims.{Sims}
 use Rattle.agema_answers.specs.declared.ended.Ended.{Ended}
-use Rattle.agema_core.specs.Words.{Mask, Sim}
+use Rattle.agema_core.specs.Words.{Mask, Sim, Reporting}
 use Rattle.agema_core.specs.Found.{IsPrintEnd, AreCells, HoldsBoth, Holds}
 use Rattle.agema_core.specs.Answer.{report_name}
-use Rattle.agema_core.specs.Left.{IsDelivery, LeftWhole, LeftPart, Leaves, LeavesMasked, LeftByMask, LeftBySim}
+use Rattle.agema_core.specs.Left.{IsDelivery, LeftWhole, LeftPart, Leaves, LeavesMasked, LeftByMask, LeftBySim, LeftByReport}
 use Rattle.agema_answers.specs.declared.ended.Ended.TheVariants.{Done, Usage, ReadFault, WriteFault, PrintFault, Memory, Refused}
 
 -- the report's name is another than OUT's
@@ -107,6 +108,19 @@ printed_left s text told old new heard before now sound f0 f1 Usage end sims sta
 printed_left s text told old new heard before now sound f0 f1 (ReadFault file) end sims stay done front = absurd end
 printed_left s text told old new heard before now sound f0 f1 (WriteFault file) end sims stay done front = absurd end
 printed_left s text told old new heard before now sound f0 f1 (Refused refusal) end sims stay done front = absurd end
+
+-- what the printing of a report's line leaves
+pub line_left : (r : Reporting) (text : List ℕ) (told : Bool) (old new : Contents) (heard : Bool) (before now : List ℕ) (sound : Bool) (f0 f1 : ℕ) (ended : Ended) → IsPrintEnd sound f0 f1 ended
+    → (IsTrue told → Holds (old (report_name r.out)) (λ file. Reports file text)) → AllStay old new
+    → (ended ≡ Done → IsTrue heard → now ≡ before ++ text) → (ended ≢ Done → IsTrue heard → TakesFront text before now)
+    → LeftByReport r told old new heard before now ended
+line_left r text told old new heard before now sound f0 f1 Done end reports stay done front = record { printed = text; reports = reports; prints = done refl; held = stay }
+line_left r text told old new heard before now sound f0 f1 PrintFault end reports stay done front = record { printed = text; reports = reports; prints = front (λ e. cc); held = stay }
+line_left r text told old new heard before now sound f0 f1 Memory end reports stay done front = inr (record { printed = text; reports = reports; prints = front (λ e. cc); held = stay })
+line_left r text told old new heard before now sound f0 f1 Usage end reports stay done front = absurd end
+line_left r text told old new heard before now sound f0 f1 (ReadFault file) end reports stay done front = absurd end
+line_left r text told old new heard before now sound f0 f1 (WriteFault file) end reports stay done front = absurd end
+line_left r text told old new heard before now sound f0 f1 (Refused refusal) end reports stay done front = absurd end
 
 -- what follows where a result is an error
 pub on_err_map : {T E P Q : Type 0} (r : Result T E) → OnErr r P → (P → Q) → OnErr r Q

@@ -1,3 +1,4 @@
 mod Commands
 mod Ends
 mod Left
+mod Counted

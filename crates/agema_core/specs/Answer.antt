@@ -5,12 +5,13 @@ use Rattle.agm_shelf.specs.Shelf.{Rose}
 use Rattle.cell_library.specs.Judged.{PlainCell}
 use Rattle.share_wiring.specs.declared.report.Mode.TheVariants.{Naive}
 use Rattle.share_wiring.specs.declared.report.Balance.TheVariants.{Pipe}
-use Rattle.agema_texts.specs.Masks.{CanMask, IsUnmasked}
+use Rattle.agema_texts.specs.Masks.{CanMask, IsWithin, IsUnmasked}
+use Rattle.agema_texts.specs.Reported.{CanReport, IsBadReport}
 use Rattle.agema_texts.specs.Sims.{CanSim, IsClocked, IsUnclocked, IsUndriven}
 use Rattle.agema_answers.specs.declared.ended.Ended.{Ended}
 use Rattle.agema_answers.specs.declared.ended.Ended.TheVariants.{Done, Usage, ReadFault, WriteFault, PrintFault, Memory, Refused}
-use Rattle.agema_answers.specs.declared.refusal.Refusal.TheVariants.{TooLong, BadStimulus, NotBuilt}
-use Rattle.agema_core.specs.Words.{Mask, Sim, Request, mask, sim}
+use Rattle.agema_answers.specs.declared.refusal.Refusal.TheVariants.{TooLong, BadReport, BadStimulus, NotBuilt}
+use Rattle.agema_core.specs.Words.{Mask, Sim, Reporting, Request, mask, sim, reporting}
 use Rattle.agema_core.specs.Found.{Counts, Found, Holds, Told, Fails, ReadFails, IsTooLong, IsDash, HoldsBoth, ToldBoth, HasCells, IsLibraryEnd}
 
 -- the file of the report stands beside OUT
@@ -26,6 +27,9 @@ pub record IsBuilt (m : Mask) : Type 0 where
 abbrev pub MaskFits : Mask → List PlainCell → List ℕ → Type 0
 MaskFits m cells text = CanMask cells text m.order
 
+abbrev pub IsMasked : Mask → List PlainCell → List ℕ → Type 0
+IsMasked m cells text = IsWithin cells text m.order
+
 abbrev pub SimFits : Sim → Found → List PlainCell → List ℕ → Type 0
 SimFits s f cells text = Holds (f.holds s.stimulus) (CanSim cells text)
 
@@ -35,11 +39,11 @@ IsRunnable cells text = (net : PlainNet) × IsClocked cells text net
 
 -- How `mask` may end that has come to the netlist.
 abbrev pub IsMaskEnd : Mask → Found → (before now : Counts) → Ended → Type 0
-IsMaskEnd m f before now Done = ToldBoth m.library m.net f (MaskFits m)
+IsMaskEnd m f before now Done = ToldBoth m.library m.net f (IsMasked m)
 IsMaskEnd m f before now Usage = Prim.⊥
 IsMaskEnd m f before now (ReadFault file) = (file ≡ m.net) × ReadFails f.sound (f.holds m.net) before.reads now.reads
-IsMaskEnd m f before now (WriteFault file) = ToldBoth m.library m.net f (MaskFits m) × ((file ≡ m.out) ⊎ (file ≡ report_name m.out)) × Fails f.sound before.writes now.writes
-IsMaskEnd m f before now PrintFault = ToldBoth m.library m.net f (MaskFits m) × Fails f.prints before.prints now.prints
+IsMaskEnd m f before now (WriteFault file) = ToldBoth m.library m.net f (IsMasked m) × ((file ≡ m.out) ⊎ (file ≡ report_name m.out)) × Fails f.sound before.writes now.writes
+IsMaskEnd m f before now PrintFault = ToldBoth m.library m.net f (IsMasked m) × Fails f.prints before.prints now.prints
 IsMaskEnd m f before now Memory = Unit {0}
 IsMaskEnd m f before now (Refused (TooLong file)) = (file ≡ m.net) × Told f.tells (f.holds m.net) IsTooLong
 IsMaskEnd m f before now (Refused refusal) = ToldBoth m.library m.net f (λ cells text. IsUnmasked cells text m.order refusal)
@@ -61,17 +65,29 @@ IsSimEnd s f before now (Refused (BadStimulus cause stream step)) =
     ToldBoth s.library s.net f (λ cells text. Holds (f.holds s.stimulus) (λ stimulus. IsUndriven cells text stimulus (BadStimulus cause stream step)))
 IsSimEnd s f before now (Refused refusal) = ToldBoth s.library s.net f (λ cells text. IsUnclocked cells text refusal)
 
+-- How `report` may end: at the file of the report, or at the printing.
+abbrev pub IsReportEnd : Reporting → Found → (before now : Counts) → Ended → Type 0
+IsReportEnd r f before now Done = Told f.tells (f.holds (report_name r.out)) CanReport
+IsReportEnd r f before now Usage = Prim.⊥
+IsReportEnd r f before now (ReadFault file) = (file ≡ report_name r.out) × ReadFails f.sound (f.holds (report_name r.out)) before.reads now.reads
+IsReportEnd r f before now (WriteFault file) = Prim.⊥
+IsReportEnd r f before now PrintFault = Told f.tells (f.holds (report_name r.out)) CanReport × Fails f.prints before.prints now.prints
+IsReportEnd r f before now Memory = Unit {0}
+IsReportEnd r f before now (Refused (TooLong file)) = (file ≡ report_name r.out) × Told f.tells (f.holds (report_name r.out)) IsTooLong
+IsReportEnd r f before now (Refused refusal) = Told f.tells (f.holds (report_name r.out)) (λ text. IsBadReport text refusal)
+
 -- at a library that is named, or behind it
 abbrev pub AtLibraryOr : (library : List ℕ) → Found → (before now : Counts) → Ended → Type 0 → Type 0
 AtLibraryOr library f before now ended Later =
     ((IsDash library → Prim.⊥) × IsLibraryEnd library f.tells f.sound (f.holds library) before.reads now.reads ended) ⊎ (HasCells library f × Later)
 
 -- When each answer may come, for what was asked and what was found. `mask` may end at its words, at the library or behind it, `sim` at the
--- library or behind it. Each refusal at a file yields to a read fault and to want of memory.
+-- library or behind it, `report` at its file or the printing. Each refusal at a file yields to a read fault and to want of memory.
 abbrev pub HasCause : Request → Found → (before now : Counts) → Ended → Type 0
 HasCause (mask m) f before now ended =
     ((IsBuilt m → Prim.⊥) × (ended ≡ Refused NotBuilt)) ⊎ (IsBuilt m × AtLibraryOr m.library f before now ended (IsMaskEnd m f before now ended))
 HasCause (sim s) f before now ended = AtLibraryOr s.library f before now ended (IsSimEnd s f before now ended)
+HasCause (reporting r) f before now ended = IsReportEnd r f before now ended
 
 -- no count of faults rose
 pub record NoneRose (before now : Counts) : Type 0 where
@@ -87,6 +103,7 @@ NothingFails f before now = (IsTrue f.tells × NoneRose before now) ⊎ (IsTrue 
 abbrev pub CanServe : Request → Found → Type 0
 CanServe (mask m) f = IsBuilt m × HoldsBoth m.library m.net f.holds (MaskFits m)
 CanServe (sim s) f = HoldsBoth s.library s.net f.holds (SimFits s f)
+CanServe (reporting r) f = Holds (f.holds (report_name r.out)) CanReport
 
 -- Completeness: where the shelf holds what the request wants and nothing fails, the command is done, or memory is wanted.
 abbrev pub IsComplete : Request → Found → (before now : Counts) → Ended → Type 0

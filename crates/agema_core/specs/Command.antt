@@ -5,9 +5,10 @@ use Rattle.share_wiring.specs.declared.report.Mode.{Mode}
 use Rattle.share_wiring.specs.declared.report.Mode.TheVariants.{Naive, Aig, Bdd}
 use Rattle.share_wiring.specs.declared.report.Balance.{Balance}
 use Rattle.share_wiring.specs.declared.report.Balance.TheVariants.{Pipe, Gate}
-use Rattle.agema_core.specs.Words.{Mask, Sim, Request, mask, sim}
+use Rattle.agema_core.specs.Words.{Mask, Sim, Reporting, Request, mask, sim, reporting}
 use Rattle.agema_core.specs.declared.words.MaskWords.{MaskWords}
 use Rattle.agema_core.specs.declared.words.SimWords.{SimWords}
+use Rattle.agema_core.specs.declared.words.ReportWords.{ReportWords}
 use Rattle.agema_core.specs.declared.words.Command.{Command}
 use Rattle.agema_core.specs.declared.words.Command.TheVariants as command
 
@@ -17,9 +18,13 @@ mask_of c = record { library = c.library.now; net = c.net.now; order = c.order; 
 abbrev pub sim_of : SimWords → Sim
 sim_of c = record { library = c.library.now; net = c.net.now; stimulus = c.stimulus.now }
 
+abbrev pub reporting_of : ReportWords → Reporting
+reporting_of c = record { out = c.out.now }
+
 abbrev pub request_of : Command → Request
 request_of (command.Mask m) = mask (mask_of m)
 request_of (command.Sim s) = sim (sim_of s)
+request_of (command.Report r) = reporting (reporting_of r)
 
 infixl 10 ◌>>=◌
 abbrev pub ◌>>=◌ : {A B : Type 0} → Option A → (A → Option B) → Option B
@@ -61,4 +66,5 @@ command_of (command ∷ library ∷ net ∷ order ∷ mode ∷ balance ∷ out �
     cond (are_names (codes "mask") command library net out) (mask_request (parts_of library net order mode balance out)) None
 command_of (command ∷ library ∷ net ∷ stimulus ∷ []) =
     cond (are_names (codes "sim") command library net stimulus) (Some (sim (record { library = library; net = net; stimulus = stimulus }))) None
+command_of (command ∷ out ∷ []) = cond (bytes_eq command (codes "report") && is_filled out) (Some (reporting (record { out = out }))) None
 command_of _ = None

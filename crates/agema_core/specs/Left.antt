@@ -2,10 +2,11 @@
 use Rattle.std.specs.Prelude.{◌≡◌, ◌≢◌, ◌⊎◌, ◌++◌, ℕ, List, Bool, IsTrue, Some}
 use Rattle.agm_shelf.specs.Shelf.{Contents, AllStay, IsFrontOrOld, TakesFront}
 use Rattle.agema_texts.specs.Masks.{Masks}
+use Rattle.agema_texts.specs.Reported.{Reports}
 use Rattle.agema_texts.specs.Sims.{Sims}
 use Rattle.agema_answers.specs.declared.ended.Ended.{Ended}
 use Rattle.agema_answers.specs.declared.ended.Ended.TheVariants.{Done, Usage, ReadFault, WriteFault, PrintFault, Memory, Refused}
-use Rattle.agema_core.specs.Words.{Mask, Sim, Request, mask, sim}
+use Rattle.agema_core.specs.Words.{Mask, Sim, Reporting, Request, mask, sim, reporting}
 use Rattle.agema_core.specs.Found.{Fails, HoldsBoth, Holds}
 use Rattle.agema_core.specs.Answer.{report_name}
 
@@ -100,14 +101,33 @@ LeftBySim s told old new heard before now Done = LeavesPrinted s told old new he
 LeftBySim s told old new heard before now PrintFault = LeavesPrinted s told old new heard before now PrintFault
 LeftBySim s told old new heard before now (WriteFault file) = Prim.⊥
 
+-- what is printed of the report's line; no name's text has changed
+pub record LeavesLine (r : Reporting) (told : Bool) (old new : Contents) (heard : Bool) (before now : List ℕ) (ended : Ended) : Type 0 where
+  pub printed : List ℕ
+  pub reports : IsTrue told → Holds (old (report_name r.out)) (λ text. Reports text printed)
+  pub prints : Prints printed heard before now ended
+  pub held : AllStay old new
+
+-- What `report` leaves after each answer: all as it was, or the line of the report or a first part of it.
+abbrev pub LeftByReport : Reporting → Bool → Contents → Contents → Bool → (before now : List ℕ) → Ended → Type 0
+LeftByReport r told old new heard before now Usage = LeavesAll old new before now
+LeftByReport r told old new heard before now (ReadFault file) = LeavesAll old new before now
+LeftByReport r told old new heard before now (Refused refusal) = LeavesAll old new before now
+LeftByReport r told old new heard before now Memory = LeavesAll old new before now ⊎ LeavesLine r told old new heard before now Memory
+LeftByReport r told old new heard before now Done = LeavesLine r told old new heard before now Done
+LeftByReport r told old new heard before now PrintFault = LeavesLine r told old new heard before now PrintFault
+LeftByReport r told old new heard before now (WriteFault file) = Prim.⊥
+
 abbrev pub HasLeft : Request → Bool → Contents → Contents → Bool → (before now : List ℕ) → Ended → Type 0
 HasLeft (mask m) told old new heard before now ended = LeftByMask m told old new heard before now ended
 HasLeft (sim s) told old new heard before now ended = LeftBySim s told old new heard before now ended
+HasLeft (reporting r) told old new heard before now ended = LeftByReport r told old new heard before now ended
 
 -- names that are no outputs of the command hold what they held
 abbrev pub OthersStay : Request → Contents → Contents → Type 0
 OthersStay (mask m) old new = OthersKeep m.out old new
 OthersStay (sim s) old new = AllStay old new
+OthersStay (reporting r) old new = AllStay old new
 
 -- answers of steps that write nothing
 abbrev pub IsUntouched : Ended → Type 0

@@ -20,6 +20,10 @@ pub record Sim : Type 0 where
   pub net : List ℕ
   pub stimulus : List ℕ
 
+-- what the words of a `report` command say
+pub record Reporting : Type 0 where
+  pub out : List ℕ
+
 -- an order that can be asked for
 abbrev pub IsOrder : ℕ → Type 0
 IsOrder d = (1 ≤ d) × (d ≤ 7)
@@ -39,17 +43,25 @@ pub record IsSim (words : List (List ℕ)) (s : Sim) : Type 0 where
   pub has_net : 0 < length s.net
   pub has_stimulus : 0 < length s.stimulus
 
+-- the words are `report OUT`, and none is empty
+pub record IsReporting (words : List (List ℕ)) (r : Reporting) : Type 0 where
+  pub words_are : words ≡ codes "report" ∷ r.out ∷ []
+  pub has_out : 0 < length r.out
+
 -- what a command asks for
 pub data Request : Type 0 where
   mask : Mask → Request
   sim : Sim → Request
+  reporting : Reporting → Request
 
 -- the words are a command that asks for this
 abbrev pub Asks : List (List ℕ) → Request → Type 0
 Asks words (mask m) = IsMask words m
 Asks words (sim s) = IsSim words s
+Asks words (reporting r) = IsReporting words r
 
 -- an order that is asked for is one that can be
 abbrev pub HasOrder : Request → Type 0
 HasOrder (mask m) = IsOrder m.order
 HasOrder (sim s) = Unit {0}
+HasOrder (reporting r) = Unit {0}

@@ -2,15 +2,23 @@ ghost use Rattle.std.specs.Prelude.{◌≡◌, ◌≢◌, ◌⊎◌, ◌≤◌, 
 ghost use Rattle.agm_shelf.specs.Shelf.{AllStay, OthersStay, Continues, IsFrontOrOld, TakesFront};
 ghost use Rattle.agema_texts.specs.Original.{length_limit};
 ghost use Rattle.agema_core.specs.Found.{IsReadEnd, IsPrintEnd, NoReadFailed};
+ghost use Rattle.agema_core.specs.Answer.{report_name};
 ghost use Rattle.agema_core.specs.Left.{IsWriteEnd, IsUntouched};
 
 use agema_answers::{Ended, Refusal};
-use agm_bits::Name;
+use agm_bits::{Memory, Name};
 use agm_shelf::{PutEnd, ReadEnd, Shelf, Sink, write_whole};
 use std::alloc::Global;
 
 // The most bytes of a file that is read.
 const LENGTH_LIMIT: usize = 268_435_456;
+
+/// The name of the report's file beside OUT.
+pub(crate) fn report_file(alloc: Global, out: &str) -> Result<String, Memory>
+    ensures { IfOk result (λ s. string_bytes s ≡ report_name out.now) }
+{
+    Ok(format!(in alloc; "{out}.json")?)
+}
 
 // A fault in reading a file.
 fn read_fault(alloc: Global, name: &str) -> Ended

@@ -5,6 +5,7 @@ mod files;
 mod inputs;
 mod mask;
 mod program;
+mod report;
 mod sim;
 mod words;
 

@@ -3,25 +3,17 @@ ghost use Rattle.agm_shelf.specs.Shelf.{Continues};
 ghost use Rattle.agema_core.specs.Words.{IsOrder, mask};
 ghost use Rattle.agema_core.specs.Command.{mask_of};
 ghost use Rattle.agema_core.specs.Found.{NoReadFailed, counts, found};
-ghost use Rattle.agema_core.specs.Answer.{HasCause, IsBuilt, report_name};
+ghost use Rattle.agema_core.specs.Answer.{HasCause, IsBuilt};
 ghost use Rattle.agema_core.specs.Left.{HasLeft, IsWritesEnd, IsDelivery, Leaves, LeftWhole, LeftPart, OthersKeep};
 
-use crate::files::{print_text, write_file};
+use crate::files::{print_text, report_file, write_file};
 use crate::inputs::read_inputs;
 use crate::words::MaskWords;
 use agema_answers::{Ended, Refusal};
 use agema_texts::{Texts, masked_texts};
-use agm_bits::Memory;
 use agm_shelf::{Shelf, Sink};
 use share_wiring::{Balance, Mode};
 use std::alloc::Global;
-
-// The name of the report's file.
-fn report_file(alloc: Global, out: &str) -> Result<String, Memory>
-    ensures { IfOk result (λ s. string_bytes s ≡ report_name out.now) }
-{
-    Ok(format!(in alloc; "{out}.json")?)
-}
 
 // Whether the words ask for what is built.
 fn is_built(words: &MaskWords<'_>) -> bool

@@ -6,10 +6,11 @@ ghost use Rattle.agema_core.specs.Answer.{HasCause, IsComplete};
 ghost use Rattle.agema_core.specs.Left.{HasLeft, LeavesAll, OthersStay};
 
 use crate::mask::run_mask;
+use crate::report::run_report;
 use crate::sim::run_sim;
 use crate::words::{Command, read_command};
 use agema_answers::Ended;
-use agema_texts::{one_original, one_simulation};
+use agema_texts::{one_original, one_reading, one_simulation};
 use agm_shelf::{Shelf, Sink};
 use cell_library::one_library;
 use std::alloc::Global;
@@ -32,6 +33,7 @@ fn run_command<H: Shelf, K: Sink>(
     match command {
         Command::Mask(words) => run_mask(alloc, words, shelf, out),
         Command::Sim(words) => run_sim(alloc, words, shelf, out),
+        Command::Report(words) => run_report(alloc, words, shelf, out),
     }
 }
 
@@ -50,6 +52,7 @@ pub fn run<H: Shelf, K: Sink>(alloc: Global, words: &[String], shelf: &mut H, ou
 {
     one_original();
     one_simulation();
+    one_reading();
     one_library();
     match read_command(words) {
         None => Ended::Usage,

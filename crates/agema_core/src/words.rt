@@ -23,11 +23,18 @@ pub(crate) struct SimWords<'a> {
     pub stimulus: &'a str,
 }
 
+/// The words of a `report` command.
+#[derive(Clone, Copy)]
+pub(crate) struct ReportWords<'a> {
+    pub out: &'a str,
+}
+
 /// A command.
 #[derive(Clone, Copy)]
 pub(crate) enum Command<'a> {
     Mask(MaskWords<'a>),
     Sim(SimWords<'a>),
+    Report(ReportWords<'a>),
 }
 
 // The order that a word spells, from 1 to 7.
@@ -145,6 +152,14 @@ pub(crate) fn read_command(words: &[String]) -> Option<Command<'_>>
                 net,
                 stimulus,
             }))
+        }
+        [command, out] => {
+            let out = out.as_str();
+            if command.as_str() == "report" && !out.is_empty() {
+                Some(Command::Report(ReportWords { out }))
+            } else {
+                None
+            }
         }
         _ => None,
     }

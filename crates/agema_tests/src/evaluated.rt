@@ -183,7 +183,7 @@ fn compare_others(alloc: Global) -> Result<(), Fail> {
     expect(compare_first(alloc, &library, &runs::RUNS)?, 6)?;
     expect(compare_first(alloc, &library, &runs::REFUSED)?, 7)?;
     expect(compare_front(alloc, &library, &runs::MASKED)?, 3)?;
-    expect(compare_front(alloc, &library, &refused::REFUSED)?, 8)?;
+    expect(compare_front(alloc, &library, &refused::REFUSED)?, 7)?;
     expect(compare_behind(alloc, &library, &simple::SIMPLE)?, 24)?;
     expect(compare_behind(alloc, &library, &SINGLE)?, 4)
 }

@@ -4,12 +4,13 @@ use agema_answers::{Ended, Refusal};
 use agm_bits::{List, Name};
 use annotations::AnnotationFault;
 use cell_library::{Bar, CellCause};
+use masked_writer::ReportCause;
 use std::alloc::Global;
 use std::test::Fail;
 use stimulus::StimulusCause;
 
 /// The status of each answer, and its line where its file or name has a blank, a line feed and a byte that is no text.
-const LINES: [(u8, &[u8]); 23] = [
+const LINES: [(u8, &[u8]); 26] = [
     (0, b"status 0 Done\n"),
     (2, b"status 2 Usage\n"),
     (3, b"status 3 ReadFault file=a b\n\xff\n"),
@@ -28,7 +29,9 @@ const LINES: [(u8, &[u8]); 23] = [
     (19, b"status 19 Top candidates=2\n"),
     (20, b"status 20 Loop wires=a b\n\xff,b\n"),
     (21, b"status 21 BadAnnotation fault=Value port=1\n"),
+    (22, b"status 22 Leak port=a b\n\xff\n"),
     (23, b"status 23 TooLarge operators=1025\n"),
+    (24, b"status 24 BadReport cause=Version\n"),
     (25, b"status 25 BadStimulus cause=Inputs stream=1 step=2\n"),
     (
         29,
@@ -36,6 +39,7 @@ const LINES: [(u8, &[u8]); 23] = [
     ),
     (30, b"status 30 Clash name=a b\n\xff\n"),
     (31, b"status 31 NotBuilt\n"),
+    (35, b"status 35 TooWide bits=65537\n"),
 ];
 
 // The loop of these wires.
@@ -68,6 +72,7 @@ fn named_refusal(alloc: Global, status: u8, name: Name, other: Name) -> Result<R
             drivers: 0,
         },
         20 => loop_of(alloc, name, other)?,
+        22 => Refusal::Leak { port: name },
         29 => Refusal::BarredCell {
             instance: name,
             cell: other,
@@ -88,12 +93,16 @@ fn refusal_of(alloc: Global, status: u8, name: Name, other: Name) -> Result<Refu
             fault: AnnotationFault::Value { port: 1 },
         },
         23 => Refusal::TooLarge { operators: 1025 },
+        24 => Refusal::BadReport {
+            cause: ReportCause::Version,
+        },
         25 => Refusal::BadStimulus {
             cause: StimulusCause::Inputs,
             stream: 1,
             step: 2,
         },
         31 => Refusal::NotBuilt,
+        35 => Refusal::TooWide { bits: 65537 },
         _ => named_refusal(alloc, status, name, other)?,
     })
 }

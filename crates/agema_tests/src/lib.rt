@@ -22,6 +22,8 @@ mod product;
 #[cfg(test)]
 mod refusals;
 #[cfg(test)]
+mod reports;
+#[cfg(test)]
 mod sims;
 #[cfg(test)]
 mod two_cells;

@@ -8,12 +8,14 @@ use agm_shelf::{MemoryShelf, MemorySink};
 use std::alloc::{AllocError, Global};
 use std::test::Fail;
 
-// A chain of one inverter more than it has wires between them.
-fn chain(alloc: Global, wires: usize) -> Result<String, AllocError> {
+// A chain of one inverter more than it has wires between them, whose output has this mark before it.
+fn chain(alloc: Global, mark: &str, wires: usize) -> Result<String, AllocError> {
     let mut text = String::from_str(
         alloc,
-        "module chain(w0, y);\n(* AGEMA = \"secure\" *) input w0;\noutput y;\n",
+        "module chain(w0, y);\n(* AGEMA = \"secure\" *) input w0;\n",
     )?;
+    text.push_str(mark)?;
+    text.push_str("output y;\n")?;
     for before in 0..wires {
         let wire = before + 1;
         let line = format!(in alloc; "wire w{wire};\n")?;
@@ -29,9 +31,11 @@ fn chain(alloc: Global, wires: usize) -> Result<String, AllocError> {
     Ok(text)
 }
 
+const MARK: &str = "(* AGEMA = \"public\" *) ";
+
 // How masking a chain at order 7 ends.
-fn end_of_chain(alloc: Global, wires: usize, end: &str) -> Result<bool, Fail> {
-    let text = chain(alloc, wires)?;
+fn end_of_chain(alloc: Global, mark: &str, wires: usize, end: &str) -> Result<bool, Fail> {
+    let text = chain(alloc, mark, wires)?;
     let found = run_over(
         alloc,
         text.as_str(),
@@ -41,11 +45,12 @@ fn end_of_chain(alloc: Global, wires: usize, end: &str) -> Result<bool, Fail> {
     Ok(found.end.as_str() == end)
 }
 
-/// At order 7 there are eight shares: 1,024 operators times 64 are just within the limit of size.
+/// At order 7 there are eight shares: 1,024 operators times 64 are just within the limit of size. A leak is told before the size.
 #[test]
 fn limits_sizes(rt: HostRuntime) -> Result<(), Fail> {
-    assert!(rt; end_of_chain(rt.alloc(), 1023, "status 0 Done\n")?);
-    assert!(rt; end_of_chain(rt.alloc(), 1024, "status 23 TooLarge operators=1025\n")?);
+    assert!(rt; end_of_chain(rt.alloc(), "", 1023, "status 0 Done\n")?);
+    assert!(rt; end_of_chain(rt.alloc(), "", 1024, "status 23 TooLarge operators=1025\n")?);
+    assert!(rt; end_of_chain(rt.alloc(), MARK, 1024, "status 22 Leak port=y\n")?);
     Ok(())
 }
 

@@ -6,13 +6,17 @@ use std::test::Fail;
 use test_netlists::simple::TWO_CELLS;
 
 /// Lines whose words are no command, ask for what isn't built, or name a file that isn't there.
-const LINES: [(&str, &str); 18] = [
+const LINES: [(&str, &str); 22] = [
     ("", "status 2 Usage\n"),
     ("sim - n.v", "status 2 Usage\n"),
     ("sim - n.v s.json more", "status 2 Usage\n"),
     ("sims - n.v s.json", "status 2 Usage\n"),
     ("sim no.lib n.v s.json", "status 3 ReadFault file=no.lib\n"),
     ("sim - n.v s.json", "status 3 ReadFault file=n.v\n"),
+    ("report", "status 2 Usage\n"),
+    ("report o.v more", "status 2 Usage\n"),
+    ("reports o.v", "status 2 Usage\n"),
+    ("report o.v", "status 3 ReadFault file=o.v.json\n"),
     ("mask", "status 2 Usage\n"),
     ("unmask - n.v 2 naive pipe o.v", "status 2 Usage\n"),
     ("mask - n.v 2 naive pipe o.v more", "status 2 Usage\n"),

@@ -1,5 +1,5 @@
 -- How a reason for a refusal becomes another.
-use Rattle.std.proofs.Common.{◌≡◌, ◌≤◌, ◌⊎◌, ℕ, List, inl, inr, Result, Ok, Err, OnOk, IfOk, IfErr, subst, string_bytes}
+use Rattle.std.proofs.Common.{◌≡◌, ◌≤◌, ◌⊎◌, ℕ, Bool, List, inl, inr, Result, Ok, Err, OnOk, IfOk, IfErr, ap, sym, ◌∙◌, subst, string_bytes}
 use Rattle.agm_net.specs.Plain.{PlainNet}
 use Rattle.agm_net.specs.declared.mark.Mark.{Mark}
 use Rattle.cell_library.specs.Judged.{PlainCell}
@@ -15,11 +15,13 @@ use Rattle.agema_answers.specs.declared.ended.Ended.{Ended}
 use Rattle.agema_answers.specs.declared.ended.Ended.TheVariants.{Done, Usage, ReadFault, WriteFault, PrintFault, Memory, Refused}
 use Rattle.agema_answers.specs.declared.refusal.Refusal.{Refusal}
 use Rattle.agema_answers.specs.declared.refusal.Refusal.TheVariants as refusal
-use Rattle.agema_answers.specs.declared.refusal.Refusal.TheVariants.{NetSyntax, Loop, BadAnnotation, TooLarge, NotBuilt}
+use Rattle.agema_answers.specs.declared.refusal.Refusal.TheVariants.{NetSyntax, Loop, BadAnnotation, Leak, TooLarge, TooWide}
 use Rattle.agema_texts.specs.Original.{IsRead, IsOriginal, EndsBy}
-use Rattle.agema_texts.specs.Marked.{IsMarked, IsUnmarked, IsTooBig, annotation_ended}
+use Rattle.secrecy_spread.specs.Leaks.{NoneLeaks}
+use Rattle.agema_texts.specs.Marked.{IsMarked, IsUnmarked, IsLeaking, IsOverSize, IsTooWide, IsTooBig, annotation_ended}
+use Rattle.share_wiring.specs.Same.{TellsSecrets}
 use Rattle.agema_texts.specs.Masks.{IsUnmasked, Masks, MasksNet, size_of, size_limit}
-use Rattle.simple_masking.specs.Simple.{IsServed}
+use Rattle.agema_texts.specs.Width.{IsNarrow, NaiveCosts}
 use Rattle.agema_texts.specs.declared.masked.Texts.{Texts}
 
 ends_by : (P Q : Refusal → Type 0) → ((r : Refusal) → P r → Q r) → (ended : Ended) → EndsBy P ended → EndsBy Q ended
@@ -35,6 +37,12 @@ ends_by P Q f PrintFault h = absurd h
 pub err_by : {X : Type 0} (P Q : Refusal → Type 0) → ((r : Refusal) → P r → Q r) → (r : Result X Ended) → IfErr r (EndsBy P) → IfErr r (EndsBy Q)
 err_by P Q f (Ok x) h = h
 err_by P Q f (Err e) h = ends_by P Q f e h
+
+-- the same of a fault that is handed on
+pub handed_by : {X : Type 0} (P Q : Refusal → Type 0) (r : Result X Ended) (f : Ended) → (y : Ended) × (r ≡ Err y) × (y ≡ f) → ((x : Refusal) → P x → Q x) → EndsBy P f → IfErr r (EndsBy Q)
+handed_by {X} P Q r f told weaker h =
+    let S : Result X Ended → Type 0 = λ s. IfErr s (EndsBy Q) in
+    subst S (sym (told.1 ∙ ap Err told.2)) (ends_by P Q weaker f h)
 
 -- the refusals that tell a fault of binding
 abbrev pub IsOfBinding : Refusal → Type 0
@@ -61,11 +69,25 @@ of_binding (fault.BarredCell i c b) r h = let same : refusal.BarredCell i c b �
 of_binding (fault.Clash n) r h = let same : refusal.Clash n ≡ r = cc in subst IsOfBinding same tt
 of_binding fault.Memory r h = cc
 
--- what is too large, or not built
-pub too_big_unmasked : (cells : List PlainCell) (bytes : List ℕ) (order : ℕ) (net : PlainNet) (marks : List Mark) → IsOriginal cells bytes net marks → (r : Refusal) → IsTooBig net marks order r → IsUnmasked cells bytes order r
-too_big_unmasked cells bytes order net marks is (TooLarge n) h = (net, marks, is, h.0, h.1)
-too_big_unmasked cells bytes order net marks is NotBuilt h = (net, marks, is, h.0, h.1)
-too_big_unmasked cells bytes order net marks is _ h = absurd h
+-- an output that leaks
+pub leaking_unmasked : (cells : List PlainCell) (bytes : List ℕ) (order : ℕ) (net : PlainNet) (marks : List Mark) → IsOriginal cells bytes net marks → (r : Refusal) → IsLeaking net marks r → IsUnmasked cells bytes order r
+leaking_unmasked cells bytes order net marks is (Leak name) (n, first, named) = (net, marks, is, (n, first, named))
+leaking_unmasked cells bytes order net marks is _ (n, first, named) = absurd named
+
+-- what is too large or too wide
+pub too_big_unmasked : (cells : List PlainCell) (bytes : List ℕ) (order : ℕ) (net : PlainNet) (marks : List Mark) → IsOriginal cells bytes net marks → NoneLeaks net marks → (r : Refusal) → IsTooBig net marks order r → IsUnmasked cells bytes order r
+too_big_unmasked cells bytes order net marks is none (TooLarge n) h = (net, marks, is, none, h.0, h.1)
+too_big_unmasked cells bytes order net marks is none (TooWide n) h = (net, marks, is, none, h.0, h.1, h.2)
+too_big_unmasked cells bytes order net marks is none _ h = absurd h
+
+pub over_size : (net : PlainNet) (marks : List Mark) (order : ℕ) (r : Refusal) → IsOverSize net order r → IsTooBig net marks order r
+over_size net marks order (TooLarge n) h = h
+over_size net marks order _ h = absurd h
+
+pub too_wide : (net : PlainNet) (marks : List Mark) (order gadgets latency : ℕ) (flags : List Bool) → size_of net order ≤ size_limit → NaiveCosts net marks gadgets latency
+    → TellsSecrets net marks flags → (r : Refusal) → IsTooWide order gadgets flags r → IsTooBig net marks order r
+too_wide net marks order gadgets latency flags fits costs told (TooWide bits) h = (fits, (gadgets, latency, flags, costs, told, h.0), h.1)
+too_wide net marks order gadgets latency flags fits costs told _ h = absurd h
 
 -- an original, by what its steps tell
 pub original_of : (cells : List PlainCell) (bytes : List ℕ) (design : PlainDesign) (net : PlainNet) (marks : List Mark) → IsRead cells bytes design net → IsMarked design net marks → IsOriginal cells bytes net marks
@@ -92,8 +114,8 @@ breaks_ended rules design net top is (annotation.ClockUse w) (inl e) = cc
 breaks_ended rules design net top is (annotation.ClockUse w) (inr first) = (top, is, first)
 
 -- texts that mask the net of an original mask what bytes give
-pub masks_all : (cells : List PlainCell) (bytes : List ℕ) (order : ℕ) (net : PlainNet) (marks : List Mark) → IsOriginal cells bytes net marks → (r : Result Texts Ended)
-    → OnOk r ((size_of net order ≤ size_limit) × IsServed net marks) → IfOk r (λ t. MasksNet net marks order t.net (string_bytes t.report) (string_bytes t.line))
+pub masks_all : (cells : List PlainCell) (bytes : List ℕ) (order : ℕ) (net : PlainNet) (marks : List Mark) → IsOriginal cells bytes net marks → NoneLeaks net marks → (r : Result Texts Ended)
+    → OnOk r ((size_of net order ≤ size_limit) × IsNarrow net marks order) → IfOk r (λ t. MasksNet net marks order t.net (string_bytes t.report) (string_bytes t.line))
     → IfOk r (λ t. Masks cells bytes order t.net (string_bytes t.report) (string_bytes t.line))
-masks_all cells bytes order net marks is (Ok t) fits masks = record { original = net; marks = marks; is_original = is; fits = fits.0; served = fits.1; masks = masks }
-masks_all cells bytes order net marks is (Err e) fits masks = tt
+masks_all cells bytes order net marks is none (Ok t) fits masks = record { original = net; marks = marks; is_original = is; no_leak = none; fits = fits.0; narrow = fits.1; masks = masks }
+masks_all cells bytes order net marks is none (Err e) fits masks = tt

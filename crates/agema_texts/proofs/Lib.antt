@@ -1,6 +1,10 @@
 mod Tops
+mod OpenClock
+mod Originals
 pub mod Ends
 mod PortNames
 mod Written
 mod Same
 mod Stimuli
+mod Readings
+mod Costs

@@ -12,10 +12,11 @@ use Rattle.top_module.specs.Top.{IsTop}
 use Rattle.net_binding.specs.Bound.{bound}
 use Rattle.bound_items.specs.declared.fault.BindFault.{BindFault}
 use Rattle.agema_answers.specs.declared.refusal.Refusal.{Refusal}
-use Rattle.agema_answers.specs.declared.refusal.Refusal.TheVariants.{NetSyntax, Loop, BadAnnotation, TooLarge, NotBuilt}
+use Rattle.agema_answers.specs.declared.refusal.Refusal.TheVariants.{NetSyntax, Loop, BadAnnotation, Leak, TooLarge, TooWide}
 use Rattle.agema_texts.specs.Original.{IsRead, IsOriginal, Keeps, IsUnread, BreaksRead}
+use Rattle.secrecy_spread.specs.Leaks.{NoneLeaks}
 use Rattle.agema_texts.specs.Masks.{CanMask, IsUnmasked, size_of, size_limit}
-use Rattle.simple_masking.specs.Simple.{IsServed}
+use Rattle.agema_texts.specs.Width.{IsWidth, width_limit}
 use Rattle.agema_texts.specs.Sims.{IsClocked, IsUnclocked, CanSim, IsUndriven, IsBadStimulus}
 use Rattle.agema_texts.proofs.Stimuli.{WritesOnce, one_stimulus}
 use Rattle.agema_texts.proofs.Tops.{one_top}
@@ -72,17 +73,22 @@ read_not_unread once cells bytes design net (Loop names) read (short, other, spe
 read_not_unread once cells bytes design net _ read h = binds_not_fails once cells bytes design net read h.1 h.2 h.3 h.4
 
 pub masked_not_refused : SpellsOnce → (cells : List PlainCell) (bytes : List ℕ) (order : ℕ) (r : Refusal) → CanMask cells bytes order → IsUnmasked cells bytes order r → Prim.⊥
-masked_not_refused once cells bytes order (BadAnnotation f) (net, marks, is, fits, served) breaks =
+masked_not_refused once cells bytes order (BadAnnotation f) (net, marks, is, no_leak, fits, narrow) breaks =
     keeps_not_breaks once annotation_rules cells bytes is.design net f is.read (is.top, is.is_top, is.none_broken) breaks
-masked_not_refused once cells bytes order (TooLarge n) (net, marks, is, fits, served) (other, others, original, count, large) =
+masked_not_refused once cells bytes order (Leak name) (net, marks, is, no_leak, fits, narrow) (other, others, original, (n, first, named)) =
+    let same = same_original once cells bytes net other marks others is original in
+    subst₂ NoneLeaks same.0 same.1 no_leak n first.0
+masked_not_refused once cells bytes order (TooLarge n) (net, marks, is, no_leak, fits, narrow) (other, others, original, none, count, large) =
     let same = (same_original once cells bytes net other marks others is original).0 in
     let P : PlainNet → Type 0 = λ n. size_of n order ≤ size_limit in
     let small : size_of other order ≤ size_limit = subst P same fits in
     absurd (omega arith)
-masked_not_refused once cells bytes order NotBuilt (net, marks, is, fits, served) (other, others, original, small, unserved) =
+masked_not_refused once cells bytes order (TooWide n) (net, marks, is, no_leak, fits, narrow) (other, others, original, none, small, width, wide) =
     let same = same_original once cells bytes net other marks others is original in
-    unserved (subst₂ IsServed same.0 same.1 served)
-masked_not_refused once cells bytes order r (net, marks, is, fits, served) unread = read_not_unread once cells bytes is.design net r is.read unread
+    let W : PlainNet → List Mark → Type 0 = λ m ms. (bits : ℕ) → IsWidth m ms order bits → bits ≤ width_limit in
+    let le : n ≤ width_limit = subst₂ W same.0 same.1 narrow n width in
+    absurd (omega arith)
+masked_not_refused once cells bytes order r (net, marks, is, no_leak, fits, narrow) unread = read_not_unread once cells bytes is.design net r is.read unread
 
 pub same_clocked : SpellsOnce → (cells : List PlainCell) (bytes : List ℕ) (m n : PlainNet) → IsClocked cells bytes m → IsClocked cells bytes n → m ≡ n
 same_clocked once cells bytes m n (d, first, keeps) (e, second, too) = (one_read once cells bytes d e m n first second).1

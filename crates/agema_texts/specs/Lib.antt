@@ -1,6 +1,9 @@
 pub mod Original
 pub mod Line
 pub mod Steps
+pub mod Width
+pub mod Planned
 pub mod Masks
 pub mod Marked
 pub mod Sims
+pub mod Reported

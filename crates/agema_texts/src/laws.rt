@@ -6,8 +6,10 @@ ghost use Rattle.stimulus.specs.declared.stimuli.Stream as stream_type;
 ghost use Rattle.agema_answers.specs.declared.refusal.Refusal as refusal_type;
 ghost use Rattle.agema_texts.specs.Original.{IsOriginal, IsUnread, BreaksRead};
 ghost use Rattle.agema_texts.specs.Masks.{CanMask, IsUnmasked};
+ghost use Rattle.agema_texts.specs.Reported.{CanReport, IsBadReport};
 ghost use Rattle.agema_texts.specs.Sims.{IsClocked, CanSim, HasStreams, IsBadStimulus, IsUnclocked, IsUndriven};
 
+use masked_writer::one_report;
 use stimulus::texts_are_one;
 use verilog_reader::one_design;
 
@@ -27,4 +29,11 @@ pub fn one_simulation()
 {
     one_design();
     texts_are_one();
+}
+
+/// A law: a text states one report at most. So what states one is not refused.
+pub fn one_reading()
+    ensures { (text : List ℕ) (refusal : refusal_type.Refusal) → CanReport text → IsBadReport text refusal → ⊥ }
+{
+    one_report();
 }

@@ -3,27 +3,38 @@ ghost use Rattle.agm_net.specs.View.{plain_of};
 ghost use Rattle.cell_library.specs.Spelled.{cell_of};
 ghost use Rattle.verilog_reader.specs.View.{design_view};
 ghost use Rattle.annotations.specs.Rules.{annotation_rules};
-ghost use Rattle.logic_graph.specs.Operators.{operators_of};
+ghost use Rattle.logic_graph.specs.GraphOf.{IsGraphOf};
 ghost use Rattle.agema_texts.specs.Original.{EndsBy, length_limit};
 ghost use Rattle.agema_texts.specs.Masks.{Masks, MasksNet, IsUnmasked, size_of, size_limit};
-ghost use Rattle.simple_masking.specs.Simple.{IsServed};
-ghost use Rattle.agema_texts.specs.Marked.{HasTopModule, IsMarked, IsUnmarked, IsTooBig};
+ghost use Rattle.agema_texts.specs.Width.{IsNarrow, width_of, width_limit};
+ghost use Rattle.level_plan.specs.PlanOf.{PlanOf};
+ghost use Rattle.secrecy_spread.specs.Mode.{IsMadeBy};
+ghost use Rattle.secrecy_spread.specs.Naive.{NaiveGadgets, NaiveDepth};
+ghost use Rattle.secrecy_spread.specs.SecretsOf.{SecretsOf};
+ghost use Rattle.agema_texts.specs.Marked.{HasTopModule, IsMarked, IsUnmarked, IsOverSize, IsMaskable, IsTooBig};
 
+use crate::leaks::secrets_of;
 use crate::line::mask_line;
 use crate::marks::annotation_ended;
+use crate::planned::{Planned, plan_naive};
 use crate::read::{Read, read_net};
 use crate::size::exceeds;
+use crate::width::check_width;
 use agema_answers::{Ended, Refusal};
 use agm_bits::{Memory, Name};
 use agm_net::{Marks, Net};
 use annotations::annotate;
+use bound_names::bound_ports_are_named;
 use cell_library::Library;
+use logic_graph::Graph;
 use masked_writer::report_text;
-use share_wiring::renumbered_is_same;
-use simple_masking::{is_served, mask_net};
+use pipeline_balance::pipelined;
+use secrecy_spread::Secrets;
+use share_wiring::{Mode, renumbered_is_same};
 use small_design::small_text_binds;
 use small_net::write_small_net;
 use std::alloc::Global;
+use whole_networks::{named_networks_are_secure, renumbered_is_net, renumbered_is_network};
 
 /// What `mask` leaves: the masked netlist, the report, and the printed line.
 #[derive(Debug, Drop)]
@@ -45,67 +56,78 @@ fn marks_of(alloc: Global, read: &Read) -> Result<Marks, Ended>
     }
 }
 
-// Whether a net is one that is masked so far, and not too large.
-fn check_net(alloc: Global, read: &Read, marks: &Marks, order: u32) -> Result<(), Ended>
+// Whether a net is not too large.
+fn check_size(graph: &Graph, net: &Net, order: u32) -> Result<(), Ended>
     requires order { order ≤ 7 }
-    requires count { read.now.operators ≡ operators_of (plain_of read.now.net) }
-    ensures ok { IfOk result (λ _. (size_of (plain_of read.now.net) order ≤ size_limit) × IsServed (plain_of read.now.net) marks.now.kinds) }
-    ensures err { IfErr result (EndsBy (IsTooBig (plain_of read.now.net) marks.now.kinds order)) }
+    requires graph_of { IsGraphOf (plain_of net.now) graph.now }
+    ensures ok { OnOk result (size_of (plain_of net.now) order ≤ size_limit) }
+    ensures err { IfErr result (EndsBy (IsOverSize (plain_of net.now) order)) }
 {
-    let operators = read.operators;
+    let operators = graph.operators();
     if exceeds(operators, order) {
         return Err(Ended::Refused(Refusal::TooLarge { operators }));
     }
-    match is_served(alloc, &read.net, marks) {
-        Ok(true) => Ok(()),
-        Ok(false) => Err(Ended::Refused(Refusal::NotBuilt)),
-        Err(_) => Err(Ended::Memory),
-    }
+    Ok(())
+}
+
+// The graph and the plan of a net that is not too large, where no port of the masked net is too wide.
+fn planned_within(
+    alloc: Global,
+    read: &Read,
+    marks: &Marks,
+    secrets: &Secrets,
+    order: u32,
+) -> Result<Planned, Ended>
+    requires order { order ≤ 7 }
+    requires graph_of { IsGraphOf (plain_of read.now.net) read.now.graph }
+    requires secrets_of { SecretsOf (plain_of read.now.net) read.now.graph marks.now.kinds secrets.now }
+    ensures fits { OnOk result ((size_of (plain_of read.now.net) order ≤ size_limit) × IsNarrow (plain_of read.now.net) marks.now.kinds order) }
+    ensures made { IfOk result (λ p. IsMadeBy NaiveGadgets NaiveDepth read.now.graph secrets.now p.xan) }
+    ensures planned { IfOk result (λ p. PlanOf p.xan secrets.now p.plan) }
+    ensures narrow { IfOk result (λ p. width_of order p.plan.gadgets secrets.now.registers ≤ width_limit) }
+    ensures err { IfErr result (EndsBy (IsTooBig (plain_of read.now.net) marks.now.kinds order)) }
+{
+    check_size(&read.graph, &read.net, order)?;
+    let planned = match plan_naive(alloc, &read.graph, secrets) {
+        Ok(planned) => planned,
+        Err(_) => return Err(Ended::Memory),
+    };
+    check_width(order, planned.plan.gadgets, secrets.registers.as_slice())?;
+    Ok(planned)
 }
 
 // The texts for a net.
-fn texts_of(alloc: Global, net: &Net, marks: &Marks, order: u32) -> Result<Texts, Memory>
-    requires served { IsServed (plain_of net.now) marks.now.kinds }
-    requires first { 1 ≤ order }
-    requires last { order ≤ 7 }
-    ensures { IfOk result (λ t. MasksNet (plain_of net.now) marks.now.kinds order t.net (string_bytes t.report) (string_bytes t.line)) }
+fn texts_of(
+    alloc: Global,
+    read: &Read,
+    marks: &Marks,
+    secrets: &Secrets,
+    planned: &Planned,
+    order: u32,
+) -> Result<Texts, Memory>
+    requires original { IsMaskable (plain_of read.now.net) read.now.graph marks.now.kinds secrets.now planned.now.xan planned.now.plan order }
+    ensures { IfOk result (λ t. MasksNet (plain_of read.now.net) marks.now.kinds order t.net (string_bytes t.report) (string_bytes t.line)) }
 {
     small_text_binds();
     renumbered_is_same();
-    let masked = mask_net(alloc, net, marks, order)?;
+    renumbered_is_net();
+    renumbered_is_network();
+    named_networks_are_secure();
+    let masked = pipelined(
+        alloc,
+        &read.net,
+        marks,
+        &read.graph,
+        secrets,
+        &planned.xan,
+        &planned.plan,
+        Mode::Naive,
+        order,
+    )?;
     let net = write_small_net(alloc, &masked.net)?;
     let report = report_text(alloc, &masked.report)?;
     let line = mask_line(alloc, &masked.report)?;
     Ok(Texts { net, report, line })
-}
-
-// The same, where memory may be wanted.
-fn texts_or_memory(alloc: Global, net: &Net, marks: &Marks, order: u32) -> Result<Texts, Ended>
-    requires served { IsServed (plain_of net.now) marks.now.kinds }
-    requires first { 1 ≤ order }
-    requires last { order ≤ 7 }
-    ensures ok { IfOk result (λ t. MasksNet (plain_of net.now) marks.now.kinds order t.net (string_bytes t.report) (string_bytes t.line)) }
-    ensures err { IfErr result (λ ended. ended ≡ Ended.Memory) }
-{
-    match texts_of(alloc, net, marks, order) {
-        Ok(texts) => Ok(texts),
-        Err(_) => Err(Ended::Memory),
-    }
-}
-
-// The texts for a net that was read, where it is masked so far.
-fn texts_if_served(alloc: Global, read: &Read, marks: &Marks, order: u32) -> Result<Texts, Ended>
-    requires first { 1 ≤ order }
-    requires last { order ≤ 7 }
-    requires count { read.now.operators ≡ operators_of (plain_of read.now.net) }
-    ensures fits { OnOk result ((size_of (plain_of read.now.net) order ≤ size_limit) × IsServed (plain_of read.now.net) marks.now.kinds) }
-    ensures ok { IfOk result (λ t. MasksNet (plain_of read.now.net) marks.now.kinds order t.net (string_bytes t.report) (string_bytes t.line)) }
-    ensures err { IfErr result (EndsBy (IsTooBig (plain_of read.now.net) marks.now.kinds order)) }
-{
-    match check_net(alloc, read, marks, order) {
-        Ok(()) => texts_or_memory(alloc, &read.net, marks, order),
-        Err(ended) => Err(ended),
-    }
 }
 
 /// The texts for a netlist, over the cells of a library.
@@ -125,7 +147,13 @@ pub fn masked_texts(
     ensures ok { IfOk result (λ t. Masks (map cell_of library.now.cells) bytes.now order t.net (string_bytes t.report) (string_bytes t.line)) }
     ensures err { IfErr result (EndsBy (IsUnmasked (map cell_of library.now.cells) bytes.now order)) }
 {
+    bound_ports_are_named();
     let read = read_net(alloc, library, bytes)?;
     let marks = marks_of(alloc, &read)?;
-    texts_if_served(alloc, &read, &marks, order)
+    let secrets = secrets_of(alloc, &read.net, &read.graph, &marks)?;
+    let planned = planned_within(alloc, &read, &marks, &secrets, order)?;
+    match texts_of(alloc, &read, &marks, &secrets, &planned, order) {
+        Ok(texts) => Ok(texts),
+        Err(_) => Err(Ended::Memory),
+    }
 }

@@ -4,7 +4,7 @@ ghost use Rattle.agm_net.specs.View.{plain_of};
 ghost use Rattle.cell_library.specs.Spelled.{cell_of};
 ghost use Rattle.verilog_reader.specs.Grammar.{Spelled};
 ghost use Rattle.verilog_reader.specs.View.{design_view};
-ghost use Rattle.logic_graph.specs.Operators.{operators_of};
+ghost use Rattle.logic_graph.specs.GraphOf.{IsGraphOf};
 ghost use Rattle.net_binding.specs.Bound.{bound};
 ghost use Rattle.agema_texts.specs.Original.{IsRead, IsUnread, EndsBy, length_limit, wire_name};
 ghost use Rattle.agema_texts.specs.Steps.{IsUnspelled, IsUnbound, IsLooped, IsAnyLoop};
@@ -13,7 +13,7 @@ use agema_answers::{Ended, Refusal, bind_ended};
 use agm_bits::{List, Memory, Name};
 use agm_net::Net;
 use cell_library::Library;
-use logic_graph::{GraphFault, order};
+use logic_graph::{Graph, GraphFault, order};
 use net_binding::bind;
 use std::alloc::Global;
 use verilog_reader::{Design, DesignFault, read_design};
@@ -23,8 +23,8 @@ use verilog_reader::{Design, DesignFault, read_design};
 pub struct Read {
     pub design: Design,
     pub net: Net,
-    /// The number of operators of the net.
-    pub operators: usize,
+    /// The graph of the net.
+    pub graph: Graph,
 }
 
 // The design that bytes spell.
@@ -81,13 +81,13 @@ fn loop_ended(alloc: Global, net: &Net, wires: &[usize]) -> Ended
     }
 }
 
-// The number of operators of a net without a loop.
-fn ordered(alloc: Global, net: &Net) -> Result<usize, Ended>
-    ensures ok { IfOk result (λ n. HasNoLoop (plain_of net.now) × (n ≡ operators_of (plain_of net.now))) }
+// The graph of a net without a loop.
+fn ordered(alloc: Global, net: &Net) -> Result<Graph, Ended>
+    ensures ok { IfOk result (λ graph. HasNoLoop (plain_of net.now) × IsGraphOf (plain_of net.now) graph) }
     ensures err { IfErr result (EndsBy (IsAnyLoop (plain_of net.now))) }
 {
     match order(alloc, net) {
-        Ok(graph) => Ok(graph.operators()),
+        Ok(graph) => Ok(graph),
         Err(GraphFault::Loop { wires }) => Err(loop_ended(alloc, net, wires.as_slice())),
         Err(GraphFault::Memory) => Err(Ended::Memory),
     }
@@ -100,15 +100,11 @@ fn ordered(alloc: Global, net: &Net) -> Result<usize, Ended>
 /// `Refused` where the bytes spell no design, the design breaks a rule of binding or its net has a loop, and `Memory` where memory runs out.
 pub fn read_net(alloc: Global, library: &Library, bytes: &[u8]) -> Result<Read, Ended>
     requires { length bytes.now ≤ length_limit }
-    ensures ok { IfOk result (λ r. IsRead (map cell_of library.now.cells) bytes.now (design_view r.design) (plain_of r.net) × (r.operators ≡ operators_of (plain_of r.net))) }
+    ensures ok { IfOk result (λ r. IsRead (map cell_of library.now.cells) bytes.now (design_view r.design) (plain_of r.net) × IsGraphOf (plain_of r.net) r.graph) }
     ensures err { IfErr result (EndsBy (IsUnread (map cell_of library.now.cells) bytes.now)) }
 {
     let design = spelled(alloc, bytes)?;
     let net = bound_net(alloc, library, &design)?;
-    let operators = ordered(alloc, &net)?;
-    Ok(Read {
-        design,
-        net,
-        operators,
-    })
+    let graph = ordered(alloc, &net)?;
+    Ok(Read { design, net, graph })
 }

@@ -5,7 +5,7 @@ pub const CELLS: &str =
     "library (bank) { cell (MUX2_X1) { pin (A) { direction : input; } pin (B) { direction : input; } pin (S) { direction : input; } pin (Z) { direction : output; function : \"((S & B) | (A & !S))\"; } } cell (DFF_X1) { ff (IQ, IQN) { clocked_on : \"CK\"; next_state : \"D\"; } pin (CK) { direction : input; } pin (D) { direction : input; } pin (Q) { direction : output; function : \"IQ\"; } pin (QN) { direction : output; function : \"IQN\"; } } cell (DFFR_X1) { ff (IQ, IQN) { clocked_on : \"CK\"; next_state : \"D\"; clear : \"!RN\"; } pin (CK) { direction : input; } pin (D) { direction : input; } pin (RN) { direction : input; } pin (Q) { direction : output; function : \"IQ\"; } } cell (DLH_X1) { latch (IQ, IQN) { enable : \"G\"; data_in : \"D\"; } pin (G) { direction : input; } pin (D) { direction : input; } pin (Q) { direction : output; function : \"IQ\"; } } }";
 
 /// How each netlist ends.
-pub const REFUSED: [(&str, &str); 36] = [
+pub const REFUSED: [(&str, &str); 35] = [
     ("", "status 12 NetSyntax at=0\n"),
     ("module t(a); input a;", "status 12 NetSyntax at=21\n"),
     (
@@ -139,9 +139,5 @@ pub const REFUSED: [(&str, &str); 36] = [
     (
         "module m(c, a, q, y); (* AGEMA = \"clock\" *) input c; (* AGEMA = \"secure\" *) input a; output q; output y; AGM_DFF r (.C(c), .D(a), .Q(q)); AGM_NOT u (.A(c), .Y(y)); endmodule",
         "status 21 BadAnnotation fault=ClockUse wire=0\n",
-    ),
-    (
-        "module m(c, a, q); (* AGEMA = \"clock\" *) input c; (* AGEMA = \"secure\" *) input a; output q; AGM_DFF r (.C(c), .D(a), .Q(q)); endmodule",
-        "status 31 NotBuilt\n",
     ),
 ];

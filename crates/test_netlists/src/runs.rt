@@ -60,9 +60,9 @@ pub const CHAINED: &str =
 pub const TREE: &str =
     "(* hdlname = \"pair\" *) (* src = \"tree.v:1.1-3.10\" *) module \\$pair (\\a.x , b, y); (* src = \"tree.v:1.20\" *) input \\a.x ; wire \\a.x ; input b; wire b; output y; wire y; AGM_XOR2 _0_ (.A(\\a.x ), .B(b), .Y(y)); endmodule\n(* top = 1 *) module tree(p, q, r, s, y); (* AGEMA = \"secure\" *) input p, q; wire p; (* AGEMA = \"secure\" *) input r; (* AGEMA = \"secure\" *) input s; output y; wire right; \\$pair left (.\\a.x (p), .b(q), .y(\\left.y$1 )); wire \\left.y$1 ; \\$pair \\right$2 (.\\a.x (r), .b(s), .y(right)); wire n; AGM_XOR2 both (.A(\\left.y$1 ), .B(right), .Y(n)); AGM_NOT last (.A(n), .Y(y)); endmodule\n";
 
-/// How `mask` ends for designs of this style: registers and vectors are not masked so far.
+/// How `mask` ends for designs of this style.
 pub const MASKED: [(&str, &str); 3] = [
-    (BANK, "status 31 NotBuilt\n"),
+    (BANK, "status 0 Done\n"),
     (HALVES, "status 21 BadAnnotation fault=NoSecure\n"),
     (TREE, "status 0 Done\n"),
 ];

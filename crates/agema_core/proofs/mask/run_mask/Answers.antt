@@ -2,10 +2,10 @@ use Rattle.std.proofs.Common.{◌≡◌, Bool, IsTrue, Some, map, string_bytes, 
 use Rattle.cell_library.specs.Spelled.{cell_of}
 use Rattle.agema_core.specs.Command.{mask_of}
 use Rattle.agema_core.specs.Found.{ToldBoth, counts, found}
-use Rattle.agema_core.specs.Answer.{MaskFits}
+use Rattle.agema_core.specs.Answer.{IsMasked}
 use Rattle.agema_core.specs.Left.{Leaves, IsDelivery}
 use Rattle.agema_core.proofs.Left.{delivered}
-use Rattle.agema_core.proofs.Ends.{input_end_mask, told_both, can_mask, delivered_end, refused_mask}
+use Rattle.agema_core.proofs.Ends.{input_end_mask, told_both, is_within, delivered_end, refused_mask}
 use Rattle.agema_core.proofs.mask.run_mask.Goals as goal
 
 pub returns-in-Err-clause-cause : goal.returns-in-Err-clause-cause
@@ -45,8 +45,8 @@ returns-in-Ok-masked_texts-clause-cause g c =
     let cells = map cell_of c.in-Ok.inputs.library.cells in
     let text = c.as_slice.result.now in
     let read : IsTrue f.tells → f.holds m.net ≡ Some text = λ t. c.in-Ok.ensures.bytes t ∙ ap (λ x. Some x) (sym c.as_slice.ensures.value) in
-    let can = can_mask cells text m.order texts.net (string_bytes texts.report) (string_bytes texts.line) c.in-Ok-masked_texts.ensures.ok in
-    let fit : ToldBoth m.library m.net f (MaskFits m) = told_both m.library m.net f (MaskFits m) cells text c.in-Ok.ensures.cells read can in
+    let can = is_within cells text m.order texts.net (string_bytes texts.report) (string_bytes texts.line) c.in-Ok-masked_texts.ensures.ok in
+    let fit : ToldBoth m.library m.net f (IsMasked m) = told_both m.library m.net f (IsMasked m) cells text c.in-Ok.ensures.cells read can in
     let D : Bool → Type 0 = λ b. IsDelivery m.out b f.prints (g.H.Shelf.write_faults c.read_inputs.new.shelf) now.writes before.prints now.prints c.deliver.result in
     let end = delivered_end m f before now (g.H.Shelf.write_faults c.read_inputs.new.shelf) c.in-Ok.ensures.goes_on.writes_later fit c.deliver.result (subst D c.in-Ok.ensures.goes_on.same_sound c.deliver.ensures.end) in
     inr (c.is_built.ensures.0 c.if-not-is_built.false, inr ((λ t. (cells, c.in-Ok.ensures.cells t)), end))

@@ -1,19 +1,43 @@
 use Rattle.std.proofs.Common.{string_bytes}
 use Rattle.agm_net.specs.View.{plain_of}
-use Rattle.agema_texts.proofs.PortNames.{reported_writable}
+use Rattle.agema_texts.proofs.Costs.{costs_of, width_parts}
+use Rattle.agema_texts.proofs.PortNames.{shared_names}
 use Rattle.agema_texts.proofs.Written.{masks_net}
 use Rattle.agema_texts.proofs.masked.texts_of.Goals as goal
 
+pub pipelined-requires : goal.pipelined-requires
+pipelined-requires c =
+    let known = c.requires.original in
+    let made = known.is_made in
+    let widths = width_parts c.args.order c.args.planned.now.plan.gadgets c.args.secrets.now.registers known.narrow in
+    record {
+      names = known.names;
+      no_loop = known.no_loop;
+      graph_of = known.is_graph;
+      marked = known.marked;
+      secrets = known.are_secrets;
+      same = made.same;
+      among = made.among;
+      public = made.stays_public;
+      plan = known.is_planned;
+      order = (known.first, known.last);
+      random = widths.0;
+      publics = widths.1;
+      hidden = widths.2;
+    }
+
 pub report_text-requires : goal.report_text-requires
-report_text-requires c =
-    let net = c.args.net.now in
-    let masked = c.in_ok-masked.ensures in
-    reported_writable (plain_of net) c.args.marks.now.kinds c.args.order c.in_ok-masked.masked.report net.well_formed c.requires.served (masked.simple, masked.product)
+report_text-requires c = shared_names c.in_ok-masked.ensures.report.ports_are c.requires.original.names.written
 
 pub returns : goal.returns
 returns c =
-    let net = c.args.net.now in
+    let net = plain_of c.args.read.now.net in
+    let known = c.requires.original in
     let masked = c.in_ok-masked.ensures in
-    masks_net (plain_of net) c.args.marks.now.kinds c.args.order c.in_ok-net.net (string_bytes c.in_ok-report.report) (string_bytes c.in_ok-line.line)
-    (plain_of c.in_ok-masked.masked.net) c.in_ok-masked.masked.report c.small_text_binds.ensures c.renumbered_is_same.ensures c.requires.served (masked.simple, masked.product) masked.same
-    c.in_ok-net.ensures c.in_ok-report.ensures.exact c.in_ok-line.ensures
+    let plan = c.args.planned.now.plan in
+    let marks = c.args.marks.now.kinds in
+    masks_net net marks c.args.order c.in_ok-net.net (string_bytes c.in_ok-report.report) (string_bytes c.in_ok-line.line)
+    (plain_of c.in_ok-masked.masked.net) c.in_ok-masked.masked.report plan.gadgets plan.depth c.small_text_binds.ensures c.renumbered_is_same.ensures
+    c.renumbered_is_net.ensures c.renumbered_is_network.ensures c.named_networks_are_secure.ensures known.names c.in_ok-masked.masked.net.well_formed masked.network known.last
+    (costs_of net c.args.read.now.graph marks c.args.secrets.now c.args.planned.now.xan plan known.is_graph known.are_secrets known.is_made known.is_planned)
+    masked.report masked.same c.in_ok-net.ensures c.in_ok-report.ensures.exact c.in_ok-line.ensures
