@@ -1,11 +1,7 @@
-//! Tests of the crates that mask: wiring, gadgets and masked nets.
+//! Tests of the builder and of gadgets.
 #![tactic(auto)]
 
 #[cfg(test)]
 mod gadgets;
 #[cfg(test)]
-mod masked_nets;
-#[cfg(test)]
 mod public_wires;
-#[cfg(test)]
-mod served_nets;
