@@ -20,9 +20,10 @@ not_true false h = refl
 free_ports : (top : PlainModule) (net : PlainNet) (n : ℕ) (ports : List Port) → NoneBroken (Broken top net) (flat_map rules_of (enumerate_from n ports))
     → AllByRecursion (λ p. starts_with nat_eq p.name (codes "agm_") ≡ false) ports
 free_ports top net n [] none = tt
-free_ports top net n (p ∷ ps) none =
-    (not_true (starts_with nat_eq p.name (codes "agm_")) none.0,
-     free_ports top net (n + 1) ps (none_rest (Broken top net) (rules_of (n, p)) (flat_map rules_of (enumerate_from (n + 1) ps)) none))
+free_ports top net n (p ∷ ps) none = (
+  not_true (starts_with nat_eq p.name (codes "agm_")) none.0,
+  free_ports top net (n + 1) ps (none_rest (Broken top net) (rules_of (n, p)) (flat_map rules_of (enumerate_from (n + 1) ps)) none),
+)
 
 written_names : (ports : List Port) → AllByRecursion IsNamed ports → AllByRecursion (λ p. IsWritable p.name) ports
 written_names [] h = tt

@@ -82,7 +82,6 @@ walk_named : (m : PlainModule) (es : List Event) (f : Option BindFault) (net : P
 walk_named m es None net named e = wire_named (wiring_of m es) (clock_of m) (first_pin es) (first_wrong (wiring_of m es)) net (ports_named m named 0 m.ports named.names) e
 walk_named m es (Some f) net named e = absurd (cc)
 
-
 module_named : (parts : Parts) (k : ℕ) (found : Option PlainModule) (net : PlainNet) → AllByRecursion IsNamedModule parts.modules → slice_get parts.modules k ≡ found → module_outcome parts k found ≡ Ok net → AreNamed net
 module_named parts k None net h at e = absurd (cc)
 module_named parts k (Some m) net h at e = walk_named m (design_events parts k) (first_broken [] (design_events parts k)) net (all_of_one IsNamedModule parts.modules k m h at) e

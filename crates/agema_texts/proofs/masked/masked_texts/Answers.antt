@@ -42,19 +42,21 @@ texts_of-requires c =
     let read = c.in_ok-read.ensures.ok.0 in
     let marked = c.in_ok-marks.ensures.ok in
     let open_clock = marked_open cells bytes design net marks read marked in
-    record { original = record {
-      first = c.requires.first;
-      last = c.requires.last;
-      no_loop = read.no_loop;
-      is_graph = c.in_ok-read.ensures.ok.1;
-      are_secrets = c.in_ok-secrets.ensures.ok;
-      marked = open_clock.0;
-      clock = open_clock.1;
-      is_made = c.in_ok-planned.ensures.made;
-      is_planned = c.in_ok-planned.ensures.planned;
-      names = has_names marked.0 net c.in_ok-read.read.net.well_formed marked.2 (c.bound_ports_are_named.ensures cells bytes design net read.spelled read.binds);
-      narrow = c.in_ok-planned.ensures.narrow;
-    } }
+    record {
+      original = record {
+        first = c.requires.first;
+        last = c.requires.last;
+        no_loop = read.no_loop;
+        is_graph = c.in_ok-read.ensures.ok.1;
+        are_secrets = c.in_ok-secrets.ensures.ok;
+        marked = open_clock.0;
+        clock = open_clock.1;
+        is_made = c.in_ok-planned.ensures.made;
+        is_planned = c.in_ok-planned.ensures.planned;
+        names = has_names marked.0 net c.in_ok-read.read.net.well_formed marked.2 (c.bound_ports_are_named.ensures cells bytes design net read.spelled read.binds);
+        narrow = c.in_ok-planned.ensures.narrow;
+      };
+    }
 
 pub returns-in_err-planned-clause-err : goal.returns-in_err-planned-clause-err
 returns-in_err-planned-clause-err c =

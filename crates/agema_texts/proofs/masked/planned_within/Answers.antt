@@ -47,5 +47,5 @@ returns-clause-fits c =
     let costs = costs_of net c.args.read.now.graph marks s c.in-Ok.planned.xan plan c.requires.graph_of c.requires.secrets_of c.in-Ok.ensures.made c.in-Ok.ensures.planned in
     let told = registers_told net c.args.read.now.graph marks s c.requires.secrets_of in
     let within : width_of c.args.order plan.gadgets s.registers ≤ width_limit =
-        subst (λ rs. width_of c.args.order plan.gadgets rs ≤ width_limit) c.as_slice.ensures c.in_ok-check_width.ensures.ok in
+    subst (λ rs. width_of c.args.order plan.gadgets rs ≤ width_limit) c.as_slice.ensures c.in_ok-check_width.ensures.ok in
     (c.in_ok-check_size.ensures.ok, (width_of c.args.order plan.gadgets s.registers, (plan.gadgets, plan.depth, s.registers, costs, told, refl), within))
