@@ -1,0 +1,13 @@
+pub mod Cutting
+pub mod Texts
+pub mod Spelling
+pub mod Reading
+pub mod Placing
+pub mod Saying
+pub mod Drives
+pub mod Finding
+pub mod Ruling
+pub mod Labelling
+pub mod Numbering
+pub mod Verdicts
+pub mod OneReading

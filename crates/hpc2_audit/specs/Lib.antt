@@ -1,0 +1,13 @@
+pub mod Cuts
+pub mod Kinds
+pub mod Spelled
+pub mod Parts
+pub mod Places
+pub mod Readers
+pub mod Standing
+pub mod Sheet
+pub mod Labels
+pub mod Recipes
+pub mod Rules
+pub mod Gadgets
+pub mod Audited
