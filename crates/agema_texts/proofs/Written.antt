@@ -1,12 +1,12 @@
 -- What is written for a net.
 use Rattle.std.proofs.Common.{◌≡◌, ◌+◌, ℕ, List, [], ◌∷◌, Option, map, refl, ap, ap₂, sym, subst, ◌∙◌, ◌≤◌, arith}
 use Rattle.std.specs.List.{enumerate_from}
-use Rattle.agm_net.specs.Network.{Hpc2}
+use Rattle.agm_net.specs.Network.{Hpc2, HasGadgets}
 use Rattle.agm_net.specs.Plain.{PlainNet}
 use Rattle.agm_net.specs.Renumbered.{Renumbered, renumbered_port}
 use Rattle.agm_net.specs.WellFormed.{WellFormed}
 use Rattle.pipeline_balance.specs.Apart.{HasNames}
-use Rattle.whole_networks.specs.Kept.{RenumberedIsNet, RenumberedIsNetwork}
+use Rattle.whole_networks.specs.Kept.{RenumberedIsNet, RenumberedIsNetwork, RenumberedHasGadgets}
 use Rattle.whole_networks.specs.Whole.{IsSecure, NamedNetworksAreSecure}
 use Rattle.agm_net.specs.declared.mark.Mark.{Mark}
 use Rattle.agm_net.specs.declared.port.Port.{Port}
@@ -37,10 +37,11 @@ renumbered_marks net other r =
 pub masks_net : (original : PlainNet) (marks : List Mark) (order : ℕ) (out file line : List ℕ) (net : PlainNet) (report : Report) (gadgets latency : ℕ)
     → ((bytes : List ℕ) (net : PlainNet) (marks : List Mark) (s : Small) → small.Spelled bytes s → States s net marks → GivesNet bytes net)
     → ((original : PlainNet) (marks : List Mark) (report : Report) (net other : PlainNet) → Same original marks report net → Renumbered net other → Same original marks report other)
-    → RenumberedIsNet → RenumberedIsNetwork → NamedNetworksAreSecure → HasNames original → WellFormed net → Hpc2 net order → order ≤ 7
+    → RenumberedIsNet → RenumberedIsNetwork → RenumberedHasGadgets → NamedNetworksAreSecure → HasNames original → WellFormed net
+    → Hpc2 net order → HasGadgets net order gadgets → order ≤ 7
     → NaiveCosts original marks gadgets latency → ReportOf original marks order Naive Pipe gadgets latency report → Same original marks report net → StatesRenumbered out net
     → file ≡ report_text report → line ≡ mask_line report → MasksNet original marks order out file line
-masks_net original marks order out file line net report gadgets latency binds carries keeps_net keeps_network are_secure names well network last costs reported same (s, other, spelled, states, r, called) file_is line_is =
+masks_net original marks order out file line net report gadgets latency binds carries keeps_net keeps_network keeps_gadgets are_secure names well network counted last costs reported same (s, other, spelled, states, r, called) file_is line_is =
     let P : List Mark → Type 0 = λ ms. States s other ms in
     let N : ℕ → Type 0 = λ d. Hpc2 other d in
     let S : ℕ → Type 0 = λ d. IsSecure other d in
@@ -61,5 +62,6 @@ masks_net original marks order out file line net report gadgets latency binds ca
       line_is = line_is;
       same = same_other;
       network = kept;
+      counted = keeps_gadgets net other order gadgets counted r;
       secure = subst S order_is secure;
     }

@@ -1,7 +1,7 @@
 -- What `mask` writes for a netlist, and when it is refused.
 use Rattle.std.specs.Prelude.{◌≡◌, ◌≤◌, ◌<◌, ◌*◌, ◌+◌, ◌⊎◌, ℕ, Bool, true, false, List, [], length, filter, Ok, slice_get}
 use Rattle.std.specs.Option.{option_map_or}
-use Rattle.agm_net.specs.Network.{Hpc2}
+use Rattle.agm_net.specs.Network.{Hpc2, HasGadgets}
 use Rattle.agm_net.specs.Plain.{PlainNet}
 use Rattle.agm_net.specs.declared.mark.Mark.{Mark}
 use Rattle.annotations.specs.Rules.{annotation_rules}
@@ -45,8 +45,8 @@ abbrev pub GivesNet : List ℕ → PlainNet → Type 0
 GivesNet bytes net = (design : PlainDesign) × Spelled bytes design × (bound [] design ≡ Ok net)
 
 -- What is written for an original: OUT spells a design that binds to a masked net, which computes what the original does. It is a small
--- text. The net is an HPC2 network of the order: its probes isolate, and tell nothing of the secrets. The report's file and the printed
--- line are those of a report of the original, by what the naive mode costs.
+-- text. The net is an HPC2 network of the order, with as many gadgets as the naive mode costs: its probes isolate, and tell nothing of
+-- the secrets. The report's file and the printed line are those of a report of the original.
 pub record MasksNet (original : PlainNet) (marks : List Mark) (order : ℕ) (out file line : List ℕ) : Type 0 where
   pub masked : PlainNet
   pub report : Report
@@ -60,6 +60,7 @@ pub record MasksNet (original : PlainNet) (marks : List Mark) (order : ℕ) (out
   pub line_is : line ≡ mask_line report
   pub same : Same original marks report masked
   pub network : Hpc2 masked order
+  pub counted : HasGadgets masked order gadgets
   pub secure : IsSecure masked order
 
 -- The first half of the program's theorem: over the cells, the bytes give an original without a leak and within the limits, and this is

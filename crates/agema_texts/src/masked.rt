@@ -34,7 +34,9 @@ use share_wiring::{Mode, renumbered_is_same};
 use small_design::small_text_binds;
 use small_net::write_small_net;
 use std::alloc::Global;
-use whole_networks::{named_networks_are_secure, renumbered_is_net, renumbered_is_network};
+use whole_networks::{
+    named_networks_are_secure, renumbered_has_gadgets, renumbered_is_net, renumbered_is_network,
+};
 
 /// What `mask` leaves: the masked netlist, the report, and the printed line.
 #[derive(Debug, Drop)]
@@ -112,6 +114,7 @@ fn texts_of(
     renumbered_is_same();
     renumbered_is_net();
     renumbered_is_network();
+    renumbered_has_gadgets();
     named_networks_are_secure();
     let masked = pipelined(
         alloc,

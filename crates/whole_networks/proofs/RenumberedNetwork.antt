@@ -2,7 +2,7 @@
 use Rattle.std.proofs.Common.{◌≡◌, ◌<◌, ℕ, zero, suc, List, [], ◌∷◌, Some, None, codes, map, length, slice_get, IsTrue, refl, sym, ap, subst, inl, inr, ◌∙◌}
 use Rattle.agm_net.specs.Label.{part, name_of, IsBitOf, IsUserName, IsPublicName, IsShareName, IsPart, IsPartName, IsReadByPart, HasLabel, MayServe, is_reader}
 use Rattle.agm_net.specs.Loop.{reads, IsChain, last_of, IsLoop}
-use Rattle.agm_net.specs.Network.{Recipe, the_clock, a_share, a_random_bit, inverse, product, sum, stored, recipe, HasWire, IsMade, HasPart, IsOfGadget, HasGadget, IsPastGap, MayClock, Keeps, Hpc2}
+use Rattle.agm_net.specs.Network.{Recipe, the_clock, a_share, a_random_bit, inverse, product, sum, stored, recipe, HasWire, IsMade, HasPart, IsOfGadget, HasGadget, IsPastGap, MayClock, Keeps, Hpc2, HasGadgets}
 use Rattle.agm_net.specs.Plain.{Stored, PlainNet}
 use Rattle.agm_net.specs.Renumbered.{renumbered_register, Renumbered}
 use Rattle.agm_net.specs.Run.{driver, reads_ever}
@@ -122,6 +122,9 @@ module _ (net other : PlainNet) (r : Renumbered net other) where
           wire_back net other r (r.back h.0) (subst (λ v. v < length other.wires) same h.1),
           gadget_back (r.back h.0) g (subst (λ v. IsOfGadget other d v g) same h.2),
         )
+
+    pub has_gadgets : (n : ℕ) → HasGadgets net d n → HasGadgets other d n
+    has_gadgets n counted g = ((λ has. (counted g).0 (had_gadget g has)), (λ lt. has_gadget g ((counted g).1 lt)))
 
     gap_back : (g : ℕ) → IsPastGap other d g → IsPastGap net d g
     gap_back g h = (h.0, h.1, (λ k lt. had_gadget k (h.2 k lt)), (λ k le lt has. h.3 k le lt (has_gadget k has)))

@@ -6,7 +6,8 @@ ghost use Rattle.whole_networks.specs.Whole.{MaskedNetsAreWhole, MaskedNetworksA
 mod renumbered;
 
 pub use renumbered::{
-    renumbered_is_masked, renumbered_is_net, renumbered_is_network, renumbered_is_secure,
+    renumbered_has_gadgets, renumbered_is_masked, renumbered_is_net, renumbered_is_network,
+    renumbered_is_secure,
 };
 use twin_tape::{networks_isolate, networks_keep_secrets};
 

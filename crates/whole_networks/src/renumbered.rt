@@ -1,4 +1,4 @@
-ghost use Rattle.whole_networks.specs.Kept.{RenumberedIsNet, RenumberedIsNetwork, RenumberedIsMasked, RenumberedIsSecure};
+ghost use Rattle.whole_networks.specs.Kept.{RenumberedIsNet, RenumberedIsNetwork, RenumberedHasGadgets, RenumberedIsMasked, RenumberedIsSecure};
 
 use crate::masked_networks_are_secure;
 
@@ -10,6 +10,11 @@ pub fn renumbered_is_net()
 /// A law: an HPC2 network is one whatever the order of its wires.
 pub fn renumbered_is_network()
     ensures { RenumberedIsNetwork }
+{}
+
+/// A law: a network has as many gadgets whatever the order of its wires.
+pub fn renumbered_has_gadgets()
+    ensures { RenumberedHasGadgets }
 {}
 
 /// A law: a net with the ports of a masked net is one whatever the order of its wires.
