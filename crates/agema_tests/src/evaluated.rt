@@ -6,9 +6,9 @@ use agm_net::Net;
 use cell_library::{Library, read_library};
 use cycle_sim::{Sim, SimFault};
 use net_binding::bind;
-use plain_evaluator::{Evaluator, Shuffled};
 use std::alloc::Global;
 use std::test::Fail;
+use test_netlists::evaluator::{Evaluator, Shuffled};
 use test_netlists::{bound, refused, runs, simple};
 use verilog_reader::read_design;
 

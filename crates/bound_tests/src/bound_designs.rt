@@ -1,32 +1,21 @@
 //! Whole designs, with the nets that they bind to or the rule that they break.
 
-use agm_bits::{List, Name};
+use crate::designs::design_of;
+use agm_bits::Name;
 use agm_net::{Expr, Net, Port, Way};
 use bound_items::BindFault;
 use cell_library::{Library, read_library};
 use net_binding::bind;
 use std::alloc::{AllocError, Global};
 use std::test::Fail;
-use test_netlists::bound::{LIBRARY, NAMES, NETS, PINS, WIRES};
-use verilog_reader::read_design;
-
-fn put_number(alloc: Global, text: &mut String, number: usize) -> Result<(), AllocError> {
-    let digits = format!(in alloc; "{number}")?;
-    text.push_str(digits.as_str())
-}
-
-fn put_name(text: &mut String, name: &Name) -> Result<(), AllocError> {
-    for byte in name.as_slice() {
-        text.push(char::from(*byte))?;
-    }
-    Ok(())
-}
+use test_netlists::bound::{CELLS, LIBRARY, NAMES, NETS, PINS, WIRES};
+use test_netlists::words::{put_name, put_number, worded};
 
 fn put_expr(alloc: Global, text: &mut String, expr: &Expr) -> Result<(), AllocError> {
     match expr {
         Expr::Zero => text.push('F'),
         Expr::One => text.push('T'),
-        Expr::Wire(w) => put_number(alloc, text, *w),
+        Expr::Wire(w) => put_number(alloc, text, *w as u128),
         Expr::Not(x) => {
             text.push('!')?;
             put_expr(alloc, text, x)
@@ -65,11 +54,11 @@ fn put_expr(alloc: Global, text: &mut String, expr: &Expr) -> Result<(), AllocEr
 }
 
 fn put_port(alloc: Global, text: &mut String, port: &Port) -> Result<(), AllocError> {
-    put_name(text, &port.name)?;
+    put_name(text, port.name.as_slice())?;
     let mut before = if port.way == Way::Input { '<' } else { '>' };
     for bit in port.bits.as_slice() {
         text.push(before)?;
-        put_number(alloc, text, *bit)?;
+        put_number(alloc, text, *bit as u128)?;
         before = ',';
     }
     text.push(' ')
@@ -83,69 +72,60 @@ fn net_text(alloc: Global, net: &Net) -> Result<String, AllocError> {
     text.push('|')?;
     for wire in net.wires.as_slice() {
         text.push(' ')?;
-        put_name(&mut text, wire)?;
+        put_name(&mut text, wire.as_slice())?;
     }
     text.push_str(" |")?;
     for equation in net.equations.as_slice() {
         text.push(' ')?;
-        put_number(alloc, &mut text, equation.wire)?;
+        put_number(alloc, &mut text, equation.wire as u128)?;
         text.push('=')?;
         put_expr(alloc, &mut text, &equation.expr)?;
     }
     text.push_str(" |")?;
     for register in net.registers.as_slice() {
         text.push(' ')?;
-        put_number(alloc, &mut text, register.q)?;
+        put_number(alloc, &mut text, register.q as u128)?;
         text.push('=')?;
         put_expr(alloc, &mut text, &register.next)?;
         text.push('@')?;
-        put_number(alloc, &mut text, register.clock)?;
+        put_number(alloc, &mut text, register.clock as u128)?;
     }
     if let Some(clock) = net.clock {
         text.push_str(" clock ")?;
-        put_number(alloc, &mut text, clock)?;
+        put_number(alloc, &mut text, clock as u128)?;
     }
     Ok(text)
 }
 
-fn named(
-    alloc: Global,
-    word: &str,
-    one: &Name,
-    other: Option<&Name>,
-) -> Result<String, AllocError> {
-    let mut text = String::new(alloc);
-    text.push_str(word)?;
+// A word with two names behind it.
+fn worded_twice(alloc: Global, word: &str, one: &Name, other: &Name) -> Result<String, AllocError> {
+    let mut text = worded(alloc, word, one.as_slice())?;
     text.push(' ')?;
-    put_name(&mut text, one)?;
-    if let Some(other) = other {
-        text.push(' ')?;
-        put_name(&mut text, other)?;
-    }
+    put_name(&mut text, other.as_slice())?;
     Ok(text)
 }
 
 fn fault_text(alloc: Global, fault: &BindFault) -> Result<String, AllocError> {
     match fault {
         BindFault::UnknownCell { instance, cell } => {
-            named(alloc, "UnknownCell", instance, Some(cell))
+            worded_twice(alloc, "UnknownCell", instance, cell)
         }
-        BindFault::UnknownPin { instance, pin } => named(alloc, "UnknownPin", instance, Some(pin)),
-        BindFault::UnknownWire { name } => named(alloc, "UnknownWire", name, None),
+        BindFault::UnknownPin { instance, pin } => worded_twice(alloc, "UnknownPin", instance, pin),
+        BindFault::UnknownWire { name } => worded(alloc, "UnknownWire", name.as_slice()),
         BindFault::Driven { wire, drivers } => {
-            let mut text = named(alloc, "Driven", wire, None)?;
+            let mut text = worded(alloc, "Driven", wire.as_slice())?;
             text.push(' ')?;
-            put_number(alloc, &mut text, *drivers)?;
+            put_number(alloc, &mut text, *drivers as u128)?;
             Ok(text)
         }
         BindFault::Width { left, right } => format!(in alloc; "Width {left} {right}"),
         BindFault::Top { candidates } => format!(in alloc; "Top {candidates}"),
-        BindFault::Recursive { module } => named(alloc, "Recursive", module, None),
+        BindFault::Recursive { module } => worded(alloc, "Recursive", module.as_slice()),
         BindFault::BarredCell { instance, cell, .. } => {
-            named(alloc, "BarredCell", instance, Some(cell))
+            worded_twice(alloc, "BarredCell", instance, cell)
         }
-        BindFault::Clash { name } => named(alloc, "Clash", name, None),
-        BindFault::Memory => named(alloc, "Memory", &List::new(alloc), None),
+        BindFault::Clash { name } => worded(alloc, "Clash", name.as_slice()),
+        BindFault::Memory => String::from_str(alloc, "memory"),
     }
 }
 
@@ -158,7 +138,7 @@ fn bound_text(alloc: Global, bound: &Result<Net, BindFault>) -> Result<String, A
 }
 
 fn text_of(alloc: Global, library: &Library, netlist: &str) -> Result<String, Fail> {
-    let design = read_design(alloc, netlist.as_bytes()).map_err(|_| Fail::from("no design"))?;
+    let design = design_of(alloc, netlist)?;
     let bound = bind(alloc, library, &design);
     Ok(bound_text(alloc, &bound)?)
 }
@@ -176,7 +156,7 @@ fn bind_all(alloc: Global, library: &Library, cases: &[(&str, &str, &str)]) -> R
 
 // The same over the library of a text.
 fn bind_over(alloc: Global, library: &str, cases: &[(&str, &str, &str)]) -> Result<(), Fail> {
-    let library = read_library(alloc, library.as_bytes()).map_err(|_| Fail::from("no library"))?;
+    let library = read_library(alloc, library.as_bytes())?;
     bind_all(alloc, &library, cases)
 }
 
@@ -198,4 +178,9 @@ fn names_are_bound(rt: HostRuntime) -> Result<(), Fail> {
 #[test]
 fn pins_are_bound(rt: HostRuntime) -> Result<(), Fail> {
     bind_over(rt.alloc(), LIBRARY, &PINS)
+}
+
+#[test]
+fn cells_are_bound(rt: HostRuntime) -> Result<(), Fail> {
+    bind_over(rt.alloc(), LIBRARY, &CELLS)
 }

@@ -1,16 +1,16 @@
 //! A design with hierarchy and its flat form, run by a plain evaluator for all values of their inputs.
 
+use crate::designs::design_of;
 use agm_net::Net;
 use cell_library::Library;
 use net_binding::bind;
-use plain_evaluator::Evaluator;
 use std::alloc::{AllocError, Global};
 use std::test::Fail;
+use test_netlists::evaluator::Evaluator;
 use test_netlists::runs::{HALVES, HALVES_FLAT};
-use verilog_reader::read_design;
 
 fn net_of(alloc: Global, netlist: &str) -> Result<Net, Fail> {
-    let design = read_design(alloc, netlist.as_bytes()).map_err(|_| Fail::from("no design"))?;
+    let design = design_of(alloc, netlist)?;
     let library = Library::empty(alloc);
     let bound = bind(alloc, &library, &design);
     match bound {

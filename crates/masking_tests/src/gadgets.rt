@@ -7,10 +7,10 @@ ghost use Rattle.share_wiring.specs.Adds.{random_bits};
 use agm_bits::Memory;
 use agm_net::{Equation, Expr, Net, Range, Register};
 use hpc2_gadget::multiply;
-use plain_evaluator::Evaluator;
 use share_wiring::{Builder, Sharing};
 use std::alloc::{AllocError, Global};
 use std::test::Fail;
+use test_netlists::evaluator::Evaluator;
 
 const PAIR: Option<Range> = Some(Range { msb: 1, lsb: 0 });
 

@@ -1,8 +1,8 @@
 //! Whole designs, with the nets that they bind to or the rule that they break.
 
-/// Cells that the designs instantiate: an inverse, a flip-flop with both outputs, and a latch, which is barred.
+/// Cells that the designs instantiate: an inverse, a flip-flop with both outputs, one whose clock is its last input, and a latch, which is barred.
 pub const LIBRARY: &str =
-    "library (l) { cell (INV) { pin (A) { direction : input; } pin (Y) { direction : output; function : \"!A\"; } } cell (DFF_X1) { ff (IQ, IQN) { clocked_on : \"CK\"; next_state : \"D\"; } pin (CK, D) { direction : input; } pin (Q) { direction : output; function : \"IQ\"; } pin (QN) { direction : output; function : \"IQN\"; } } cell (LAT) { latch (IQ, IQN) { } pin (D) { direction : input; } } }";
+    "library (l) { cell (INV) { pin (A) { direction : input; } pin (Y) { direction : output; function : \"!A\"; } } cell (DFF_X1) { ff (IQ, IQN) { clocked_on : \"CK\"; next_state : \"D\"; } pin (CK, D) { direction : input; } pin (Q) { direction : output; function : \"IQ\"; } pin (QN) { direction : output; function : \"IQN\"; } } cell (DFF_LAST) { ff (IQ, IQN) { clocked_on : \"CK\"; next_state : \"D\"; } pin (D, CK) { direction : input; } pin (Q) { direction : output; function : \"IQ\"; } } cell (LAT) { latch (IQ, IQN) { } pin (D) { direction : input; } } }";
 
 /// What a netlist shows, the netlist, and the net or the rule that a person finds.
 pub const NETS: [(&str, &str, &str); 16] = [
@@ -337,5 +337,29 @@ pub const PINS: [(&str, &str, &str); 16] = [
         "wires before pins",
         "module m(y); output y; wire w; INV u (.Y(y)); INV v (.A(w), .Y(w)); INV x (.A(w), .Y(w)); endmodule",
         "Driven w 2",
+    ),
+];
+
+/// More of them.
+pub const CELLS: [(&str, &str, &str); 4] = [
+    (
+        "an or",
+        "module m(a, b, y); input a, b; output y; AGM_OR2 u (.A(a), .B(b), .Y(y)); endmodule",
+        "a<0 b<1 y>2 | a b y | 2=(0|1) |",
+    ),
+    (
+        "an empty connection last",
+        "module m(a); input a; INV u (.A(a), .A()); endmodule",
+        "Clash u.A",
+    ),
+    (
+        "a clock at its cell's last input",
+        "module m(c, d, q); input c, d; output q; DFF_LAST r (.D(d), .CK(c), .Q(q)); endmodule",
+        "c<0 d<1 q>2 | c d q r.IQ | 2=3 | 3=1@0",
+    ),
+    (
+        "an open clock at its cell's last input",
+        "module m(d, q); input d; output q; DFF_LAST r (.D(d), .Q(q)); endmodule",
+        "Driven r.CK 0",
     ),
 ];

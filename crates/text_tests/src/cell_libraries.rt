@@ -1,63 +1,62 @@
 //! Cell libraries: causes that bar cells, functions, and places of wrong tokens.
 
-use agm_bits::{Memory, Name};
 use agm_net::{Expr, Way};
-use cell_library::{Bar, Cell, CellCause, Library, LibraryFault, Pin, State, read_library};
+use cell_library::{Cell, LibraryFault, Pin, State, read_library};
 use std::alloc::{AllocError, Global};
 use std::test::Fail;
+use test_netlists::evaluator::value;
+use test_netlists::words::{put_name, worded};
 
-// The value of an expression where wire k has bit k of a number.
-fn value(expr: &Expr, bits: usize) -> bool {
-    match expr {
-        Expr::Zero => false,
-        Expr::One => true,
-        Expr::Wire(k) => match u32::try_from(*k) {
-            Ok(k) => bits.checked_shr(k).unwrap_or(0) % 2 == 1,
-            Err(_) => false,
-        },
-        Expr::Not(x) => !value(x, bits),
-        Expr::And(x, y) => value(x, bits) & value(y, bits),
-        Expr::Or(x, y) => value(x, bits) | value(y, bits),
-        Expr::Xor(x, y) => value(x, bits) ^ value(y, bits),
-        Expr::Mux { select, low, high } => {
-            if value(select, bits) {
-                value(high, bits)
-            } else {
-                value(low, bits)
-            }
-        }
-    }
-}
-
-fn push_name(text: &mut String, name: &[u8]) -> Result<(), AllocError> {
-    for byte in name {
-        text.push(char::from(*byte))?;
-    }
-    Ok(())
+// The row in which wire k has bit k of a number.
+fn row_of(bits: usize) -> [bool; 8] {
+    [
+        bits & 1 != 0,
+        bits & 2 != 0,
+        bits & 4 != 0,
+        bits & 8 != 0,
+        bits & 16 != 0,
+        bits & 32 != 0,
+        bits & 64 != 0,
+        bits & 128 != 0,
+    ]
 }
 
 // The truth table of an expression over so many wires, from the row of zeros on.
-fn push_table(text: &mut String, expr: &Expr, wires: u32) -> Result<(), AllocError> {
+fn put_table(text: &mut String, expr: &Expr, wires: u32) -> Result<(), AllocError> {
     for bits in 0..1usize.checked_shl(wires).unwrap_or(0) {
-        text.push(if value(expr, bits) { '1' } else { '0' })?;
+        text.push(if value(expr, &row_of(bits)) { '1' } else { '0' })?;
     }
     Ok(())
 }
 
-fn push_pin(text: &mut String, pin: &Pin, wires: u32) -> Result<(), AllocError> {
+fn put_pin(text: &mut String, pin: &Pin, wires: u32) -> Result<(), AllocError> {
     text.push(' ')?;
-    push_name(text, pin.name.as_slice())?;
+    put_name(text, pin.name.as_slice())?;
     text.push(if let Way::Input = pin.way { '<' } else { '>' })?;
     match &pin.function {
-        Some(function) => push_table(text, function, wires),
+        Some(function) => put_table(text, function, wires),
         None => Ok(()),
     }
 }
 
-// A cell as its name, its cause or its pins with their truth tables, and its state.
-fn shown(alloc: Global, cell: &Cell) -> Result<String, AllocError> {
-    let mut text = String::new(alloc);
-    push_name(&mut text, cell.name.as_slice())?;
+// Adds a state between brackets: its name, its clock, and the table of its next value.
+fn put_state(
+    alloc: Global,
+    text: &mut String,
+    state: &State,
+    wires: u32,
+) -> Result<(), AllocError> {
+    text.push_str(" [")?;
+    put_name(text, state.name.as_slice())?;
+    let clock = format!(in alloc; " {} ", state.clock)?;
+    text.push_str(clock.as_str())?;
+    put_table(text, &state.next, wires)?;
+    text.push(']')
+}
+
+// Adds a line with a cell's name, its cause or its pins with their truth tables, and its state.
+fn put_cell(alloc: Global, text: &mut String, cell: &Cell) -> Result<(), AllocError> {
+    put_name(text, cell.name.as_slice())?;
     if let Some(bar) = cell.barred {
         let cause = format!(in alloc; " {bar:?}")?;
         text.push_str(cause.as_str())?;
@@ -65,39 +64,31 @@ fn shown(alloc: Global, cell: &Cell) -> Result<String, AllocError> {
     let states = if cell.state.is_some() { 1 } else { 0 };
     let wires = u32::try_from(cell.pins.len().saturating_add(states)).unwrap_or(0);
     for pin in cell.pins.as_slice() {
-        push_pin(&mut text, pin, wires)?;
+        put_pin(text, pin, wires)?;
     }
     if let Some(state) = &cell.state {
-        text.push_str(" [")?;
-        push_name(&mut text, state.name.as_slice())?;
-        let clock = format!(in alloc; " {} ", state.clock)?;
-        text.push_str(clock.as_str())?;
-        push_table(&mut text, &state.next, wires)?;
-        text.push(']')?;
+        put_state(alloc, text, state, wires)?;
     }
-    Ok(text)
+    text.push('\n')
 }
 
-// The cells of a library, one a line, or its fault.
+// The cells of a library, or its fault.
 fn told(alloc: Global, bytes: &[u8]) -> Result<String, AllocError> {
     let mut text = String::new(alloc);
     match read_library(alloc, bytes) {
         Ok(library) => {
             for cell in library.cells.as_slice() {
-                let line = shown(alloc, cell)?;
-                text.push_str(line.as_str())?;
-                text.push('\n')?;
+                put_cell(alloc, &mut text, cell)?;
             }
+            Ok(text)
         }
-        Err(LibraryFault::Syntax { at }) => return format!(in alloc; "syntax at {at}"),
+        Err(LibraryFault::Syntax { at }) => format!(in alloc; "syntax at {at}"),
         Err(LibraryFault::Cell { name, cause }) => {
-            let cause = format!(in alloc; "{cause:?} ")?;
-            text.push_str(cause.as_str())?;
-            push_name(&mut text, name.as_slice())?;
+            let cause = format!(in alloc; "{cause:?}")?;
+            worded(alloc, cause.as_str(), name.as_slice())
         }
-        Err(LibraryFault::Memory) => text.push_str("memory")?,
+        Err(LibraryFault::Memory) => String::from_str(alloc, "memory"),
     }
-    Ok(text)
 }
 
 // Texts of whole libraries, and what is read.
@@ -336,22 +327,11 @@ const CELLS: [(&str, &str); 45] = [
     ),
 ];
 
-#[test]
-fn reads_whole_texts(rt: HostRuntime) -> Result<(), Fail> {
-    let alloc = rt.alloc();
-    for (text, wanted) in WHOLE {
-        let found = told(alloc, text.as_bytes())?;
-        assert_eq!(rt; found.as_str(), wanted, "at {text}");
-    }
-    Ok(())
-}
-
-// Fails at the first cell that is read otherwise.
-fn read_all(alloc: Global, cells: &[(&str, &str)]) -> Result<(), Fail> {
-    for (text, wanted) in cells {
-        let library = format!(in alloc; "library (x) {{ cell (c) {{ {text} }} }}")?;
-        let found = told(alloc, library.as_bytes())?;
-        if found.as_str() != *wanted {
+// Fails at the first text that is read otherwise between these two.
+fn read_all(alloc: Global, front: &str, cases: &[(&str, &str)], behind: &str) -> Result<(), Fail> {
+    for (text, wanted) in cases {
+        let whole = format!(in alloc; "{front}{text}{behind}")?;
+        if told(alloc, whole.as_bytes())?.as_str() != *wanted {
             return Err(Fail::from(*text));
         }
     }
@@ -359,9 +339,16 @@ fn read_all(alloc: Global, cells: &[(&str, &str)]) -> Result<(), Fail> {
 }
 
 #[test]
+fn reads_libraries(rt: HostRuntime) -> Result<(), Fail> {
+    read_all(rt.alloc(), "", &WHOLE, "")
+}
+
+const FRONT: &str = "library (x) { cell (c) { ";
+
+#[test]
 fn reads_cells(rt: HostRuntime) -> Result<(), Fail> {
-    read_all(rt.alloc(), CELLS.as_slice())?;
-    read_all(rt.alloc(), BARRED.as_slice())
+    read_all(rt.alloc(), FRONT, &CELLS, " } }")?;
+    read_all(rt.alloc(), FRONT, &BARRED, " } }")
 }
 
 // A library in which so many groups nest.
@@ -378,17 +365,20 @@ fn nested(alloc: Global, groups: usize) -> Result<String, AllocError> {
     Ok(text)
 }
 
+/// So many groups, and what is read.
+const NESTS: [(usize, &str); 4] = [
+    (1, ""),
+    (100, ""),
+    (101, "syntax at 410"),
+    (100_000, "syntax at 410"),
+];
+
 #[test]
-fn nests(rt: HostRuntime) -> Result<(), Fail> {
-    let alloc = rt.alloc();
-    for (groups, wanted) in [
-        (1, ""),
-        (100, ""),
-        (101, "syntax at 410"),
-        (100_000, "syntax at 410"),
-    ] {
-        let found = told(alloc, nested(alloc, groups)?.as_bytes())?;
-        assert_eq!(rt; found.as_str(), wanted, "at {groups}");
+fn groups_nest_100_deep(rt: HostRuntime) -> Result<(), Fail> {
+    for (groups, wanted) in NESTS {
+        let text = nested(rt.alloc(), groups)?;
+        let found = told(rt.alloc(), text.as_bytes())?;
+        assert!(rt; found.as_str() == wanted, "at {groups}");
     }
     Ok(())
 }

@@ -1,8 +1,9 @@
 //! Tokens of Liberty texts.
 
 use liberty_text::{Token, front, is_at_end, place, unbroken};
-use std::alloc::{AllocError, Global};
+use std::alloc::Global;
 use std::test::Fail;
+use test_netlists::words::put_name;
 
 // A text, its tokens, and the place where they end.
 const CASES: [(&str, &str, usize); 22] = [
@@ -30,35 +31,31 @@ const CASES: [(&str, &str, usize); 22] = [
     ("\x0c\x0b", "", 1),
 ];
 
-// A token as a word.
-fn shown(alloc: Global, token: &Token<'_>) -> Result<String, AllocError> {
+// Adds a token as a word.
+fn put_token(alloc: Global, text: &mut String, token: &Token<'_>) -> Result<(), Fail> {
     match token {
-        Token::Word(word) => spelled(alloc, "w:", word),
-        Token::Text(inner) => match unbroken(alloc, inner) {
-            Ok(value) => spelled(alloc, "t:", value.as_slice()),
-            Err(_) => Err(AllocError),
-        },
-        Token::Symbol(byte) => format!(in alloc; "{} ", char::from(*byte)),
-    }
-}
-
-fn spelled(alloc: Global, kind: &str, bytes: &[u8]) -> Result<String, AllocError> {
-    let mut text = String::from_str(alloc, kind)?;
-    for byte in bytes {
-        text.push(char::from(*byte))?;
+        Token::Word(word) => {
+            text.push_str("w:")?;
+            put_name(text, word)?;
+        }
+        Token::Text(inner) => {
+            text.push_str("t:")?;
+            put_name(text, unbroken(alloc, inner)?.as_slice())?;
+        }
+        Token::Symbol(byte) => text.push(char::from(*byte))?,
     }
     text.push(' ')?;
-    Ok(text)
+    Ok(())
 }
 
 // The tokens up to the end or to a wrong piece, and where they end.
-fn words(alloc: Global, bytes: &[u8]) -> Result<(String, usize), AllocError> {
+fn words(alloc: Global, bytes: &[u8]) -> Result<(String, usize), Fail> {
     let mut words = String::new(alloc);
     let mut rest = bytes;
     for _ in 0..bytes.len() {
         match front(rest) {
             Some((token, behind)) => {
-                words.push_str(shown(alloc, &token)?.as_str())?;
+                put_token(alloc, &mut words, &token)?;
                 rest = behind;
             }
             None => break,
@@ -68,13 +65,18 @@ fn words(alloc: Global, bytes: &[u8]) -> Result<(String, usize), AllocError> {
     Ok((words, bytes.len().saturating_sub(left)))
 }
 
-#[test]
-fn cuts_texts(rt: HostRuntime) -> Result<(), Fail> {
-    let alloc = rt.alloc();
-    for (text, wanted, end) in CASES {
+// Fails at the first text that is cut otherwise.
+fn cut_all(alloc: Global, cases: &[(&str, &str, usize)]) -> Result<(), Fail> {
+    for (text, wanted, end) in cases {
         let (found, place) = words(alloc, text.as_bytes())?;
-        assert_eq!(rt; found.as_str(), wanted, "at {text}");
-        assert_eq!(rt; place, end, "at {text}");
+        if found.as_str() != *wanted || place != *end {
+            return Err(Fail::from(*text));
+        }
     }
     Ok(())
+}
+
+#[test]
+fn cuts_texts(rt: HostRuntime) -> Result<(), Fail> {
+    cut_all(rt.alloc(), &CASES)
 }

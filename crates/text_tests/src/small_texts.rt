@@ -7,6 +7,7 @@ use small_text::{Bit, Declaration, Item, Small, Source, write_small};
 use std::alloc::Global;
 use std::str::from_utf8;
 use std::test::Fail;
+use test_netlists::parts::names_of;
 
 /// A name, with the number of its select where there is one.
 type Pin = (&'static str, Option<u32>);
@@ -92,14 +93,6 @@ fn name_of(alloc: Global, name: &str) -> Result<Name, Memory> {
     Name::from_slice(alloc, name.as_bytes())
 }
 
-fn names_of(alloc: Global, names: &[&str]) -> Result<List<Name>, Memory> {
-    let mut list = List::new(alloc);
-    for name in names {
-        list.push(name_of(alloc, name)?)?;
-    }
-    Ok(list)
-}
-
 fn bit_of(alloc: Global, pin: Pin) -> Result<Bit, Memory> {
     let (name, index) = pin;
     let name = name_of(alloc, name)?;
@@ -118,39 +111,50 @@ fn declaration_of(alloc: Global, row: Row) -> Result<Declaration, Memory> {
     }
 }
 
+// The name of an instance, and the bits at three pins.
+fn parts_of(alloc: Global, name: &str, pins: [Pin; 3]) -> Result<(Name, Bit, Bit, Bit), Memory> {
+    let [first, second, third] = pins;
+    let name = name_of(alloc, name)?;
+    let first = bit_of(alloc, first)?;
+    let second = bit_of(alloc, second)?;
+    let third = bit_of(alloc, third)?;
+    Ok((name, first, second, third))
+}
+
+fn inverter(alloc: Global, name: &str, a: Pin, y: Pin) -> Result<Item, Memory> {
+    let name = name_of(alloc, name)?;
+    let a = bit_of(alloc, a)?;
+    let y = bit_of(alloc, y)?;
+    Ok(Item::Not { name, a, y })
+}
+
+fn assign(alloc: Global, target: Pin, from: Pin) -> Result<Item, Memory> {
+    let target = bit_of(alloc, target)?;
+    let source = Source::Bit(bit_of(alloc, from)?);
+    Ok(Item::Assign { target, source })
+}
+
 fn item_of(alloc: Global, line: Line) -> Result<Item, Memory> {
     match line {
-        Line::Assign(target, from) => Ok(Item::Assign {
-            target: bit_of(alloc, target)?,
-            source: Source::Bit(bit_of(alloc, from)?),
-        }),
-        Line::Set(target, value) => Ok(Item::Assign {
-            target: bit_of(alloc, target)?,
-            source: Source::Constant(value),
-        }),
-        Line::Not(name, a, y) => Ok(Item::Not {
-            name: name_of(alloc, name)?,
-            a: bit_of(alloc, a)?,
-            y: bit_of(alloc, y)?,
-        }),
-        Line::Xor(name, a, b, y) => Ok(Item::Xor {
-            name: name_of(alloc, name)?,
-            a: bit_of(alloc, a)?,
-            b: bit_of(alloc, b)?,
-            y: bit_of(alloc, y)?,
-        }),
-        Line::And(name, a, b, y) => Ok(Item::And {
-            name: name_of(alloc, name)?,
-            a: bit_of(alloc, a)?,
-            b: bit_of(alloc, b)?,
-            y: bit_of(alloc, y)?,
-        }),
-        Line::Register(name, c, d, q) => Ok(Item::Register {
-            name: name_of(alloc, name)?,
-            c: bit_of(alloc, c)?,
-            d: bit_of(alloc, d)?,
-            q: bit_of(alloc, q)?,
-        }),
+        Line::Assign(target, from) => assign(alloc, target, from),
+        Line::Set(target, value) => {
+            let target = bit_of(alloc, target)?;
+            let source = Source::Constant(value);
+            Ok(Item::Assign { target, source })
+        }
+        Line::Not(name, a, y) => inverter(alloc, name, a, y),
+        Line::Xor(name, a, b, y) => {
+            let (name, a, b, y) = parts_of(alloc, name, [a, b, y])?;
+            Ok(Item::Xor { name, a, b, y })
+        }
+        Line::And(name, a, b, y) => {
+            let (name, a, b, y) = parts_of(alloc, name, [a, b, y])?;
+            Ok(Item::And { name, a, b, y })
+        }
+        Line::Register(name, c, d, q) => {
+            let (name, c, d, q) = parts_of(alloc, name, [c, d, q])?;
+            Ok(Item::Register { name, c, d, q })
+        }
     }
 }
 

@@ -4,6 +4,7 @@ use agm_bits::{List, Name};
 use agm_net::{Range, Way};
 use std::alloc::{AllocError, Global};
 use std::test::Fail;
+use test_netlists::words::{put_name, put_names, put_number};
 use verilog_reader::{
     Attribute, Connection, Design, DesignFault, Form, Item, Module, Value, read_design,
 };
@@ -438,18 +439,6 @@ const REFUSED: [(&str, &str, usize); 71] = [
     ("an item behind a module", "module m;endmodule wire a;", 19),
 ];
 
-fn put_name(text: &mut String, name: &Name) -> Result<(), AllocError> {
-    for byte in name.as_slice() {
-        text.push(char::from(*byte))?;
-    }
-    Ok(())
-}
-
-fn put_number(alloc: Global, text: &mut String, number: u128) -> Result<(), AllocError> {
-    let digits = format!(in alloc; "{number}")?;
-    text.push_str(digits.as_str())
-}
-
 // Bits behind a `'`.
 fn put_bits(text: &mut String, bits: &List<bool>) -> Result<(), AllocError> {
     text.push('\'')?;
@@ -463,7 +452,7 @@ fn put_value(alloc: Global, text: &mut String, value: &Value) -> Result<(), Allo
     match value {
         Value::Text(string) => {
             text.push('"')?;
-            put_name(text, string)?;
+            put_name(text, string.as_slice())?;
             text.push('"')
         }
         Value::Number(number) => put_number(alloc, text, *number),
@@ -483,7 +472,7 @@ fn put_attributes(
     let mut between = '{';
     for attribute in attributes.as_slice() {
         text.push(between)?;
-        put_name(text, &attribute.name)?;
+        put_name(text, attribute.name.as_slice())?;
         if let Some(value) = &attribute.value {
             text.push('=')?;
             put_value(alloc, text, value)?;
@@ -500,7 +489,7 @@ fn put_select(
     high: u32,
     low: Option<u32>,
 ) -> Result<(), AllocError> {
-    put_name(text, name)?;
+    put_name(text, name.as_slice())?;
     text.push('[')?;
     put_number(alloc, text, u128::from(high))?;
     if let Some(low) = low {
@@ -513,7 +502,7 @@ fn put_select(
 // A concatenation between `<` and `>`, a replication with `*` behind its count.
 fn put_form(alloc: Global, text: &mut String, form: &Form) -> Result<(), AllocError> {
     match form {
-        Form::Whole(name) => put_name(text, name),
+        Form::Whole(name) => put_name(text, name.as_slice()),
         Form::Bit(name, index) => put_select(alloc, text, name, *index, None),
         Form::Part(name, high, low) => put_select(alloc, text, name, *high, Some(*low)),
         Form::Constant(bits) => put_bits(text, bits),
@@ -546,19 +535,6 @@ fn put_range(alloc: Global, text: &mut String, range: Option<Range>) -> Result<(
     Ok(())
 }
 
-// Names with blanks between them.
-fn put_names(text: &mut String, names: &List<Name>) -> Result<(), AllocError> {
-    let mut is_first = true;
-    for name in names.as_slice() {
-        if !is_first {
-            text.push(' ')?;
-        }
-        put_name(text, name)?;
-        is_first = false;
-    }
-    Ok(())
-}
-
 // Pins between parentheses, as `A:x`, and `A:-` for an empty connection.
 fn put_pins(alloc: Global, text: &mut String, pins: &List<Connection>) -> Result<(), AllocError> {
     text.push('(')?;
@@ -567,7 +543,7 @@ fn put_pins(alloc: Global, text: &mut String, pins: &List<Connection>) -> Result
         if !is_first {
             text.push(' ')?;
         }
-        put_name(text, &pin.pin)?;
+        put_name(text, pin.pin.as_slice())?;
         text.push(':')?;
         match &pin.form {
             Some(form) => put_form(alloc, text, form)?,
@@ -597,7 +573,7 @@ fn put_item(alloc: Global, text: &mut String, item: &Item) -> Result<(), AllocEr
             put_attributes(alloc, text, attributes)?;
             text.push_str(way_word(*way))?;
             put_range(alloc, text, *range)?;
-            put_names(text, names)
+            put_names(text, names.as_slice())
         }
         Item::Assign {
             attributes,
@@ -616,9 +592,9 @@ fn put_item(alloc: Global, text: &mut String, item: &Item) -> Result<(), AllocEr
             pins,
         } => {
             put_attributes(alloc, text, attributes)?;
-            put_name(text, cell)?;
+            put_name(text, cell.as_slice())?;
             text.push(' ')?;
-            put_name(text, name)?;
+            put_name(text, name.as_slice())?;
             put_pins(alloc, text, pins)
         }
     }
@@ -627,9 +603,9 @@ fn put_item(alloc: Global, text: &mut String, item: &Item) -> Result<(), AllocEr
 fn put_module(alloc: Global, text: &mut String, module: &Module) -> Result<(), AllocError> {
     put_attributes(alloc, text, &module.attributes)?;
     text.push_str("module ")?;
-    put_name(text, &module.name)?;
+    put_name(text, module.name.as_slice())?;
     text.push('(')?;
-    put_names(text, &module.ports)?;
+    put_names(text, module.ports.as_slice())?;
     text.push_str(");")?;
     for item in module.items.as_slice() {
         text.push(' ')?;
@@ -671,24 +647,34 @@ fn refused(alloc: Global, text: &[u8]) -> Result<Option<usize>, Fail> {
     }
 }
 
-#[test]
-fn reads_designs(rt: HostRuntime) -> Result<(), Fail> {
-    let alloc = rt.alloc();
-    for (rule, text, wanted) in READ {
-        let found = read(alloc, text.as_bytes())?;
-        assert_eq!(rt; found.as_str(), wanted, "{rule}");
+// Fails at the first text that is read otherwise.
+fn read_all(alloc: Global, cases: &[(&str, &str, &str)]) -> Result<(), Fail> {
+    for (rule, text, wanted) in cases {
+        if read(alloc, text.as_bytes())?.as_str() != *wanted {
+            return Err(Fail::from(*rule));
+        }
+    }
+    Ok(())
+}
+
+// Fails at the first text that is not refused at its place.
+fn refuse_all(alloc: Global, cases: &[(&str, &str, usize)]) -> Result<(), Fail> {
+    for (rule, text, wanted) in cases {
+        if refused(alloc, text.as_bytes())? != Some(*wanted) {
+            return Err(Fail::from(*rule));
+        }
     }
     Ok(())
 }
 
 #[test]
+fn reads_designs(rt: HostRuntime) -> Result<(), Fail> {
+    read_all(rt.alloc(), &READ)
+}
+
+#[test]
 fn refuses_texts(rt: HostRuntime) -> Result<(), Fail> {
-    let alloc = rt.alloc();
-    for (rule, text, wanted) in REFUSED {
-        let found = refused(alloc, text.as_bytes())?;
-        assert_eq!(rt; found, Some(wanted), "{rule}");
-    }
-    Ok(())
+    refuse_all(rt.alloc(), &REFUSED)
 }
 
 /// Every word that is no identifier.
@@ -752,17 +738,19 @@ fn placed(
     Ok(text)
 }
 
+// Whether a word is refused in this place, and taken where it is escaped.
+fn is_key(alloc: Global, front: &str, word: &str, behind: &str) -> Result<bool, Fail> {
+    let plain = placed(alloc, front, "", word, behind)?;
+    let escaped = placed(alloc, front, "\\", word, behind)?;
+    let is_taken = refused(alloc, escaped.as_bytes())?.is_none();
+    Ok(is_taken && refused(alloc, plain.as_bytes())? == Some(front.len()))
+}
+
 #[test]
 fn keys_are_no_identifiers(rt: HostRuntime) -> Result<(), Fail> {
-    let alloc = rt.alloc();
     for (front, behind) in PLACES {
         for key in KEYS {
-            let plain = placed(alloc, front, "", key, behind)?;
-            let found = refused(alloc, plain.as_bytes())?;
-            assert_eq!(rt; found, Some(front.len()), "{front}{key}");
-            let escaped = placed(alloc, front, "\\", key, behind)?;
-            let found = refused(alloc, escaped.as_bytes())?;
-            assert_eq!(rt; found, None, "{front}\\{key}");
+            assert!(rt; is_key(rt.alloc(), front, key, behind)?, "{front}{key}");
         }
     }
     Ok(())
@@ -797,32 +785,39 @@ const NESTS: [(&str, &str, &str, &str); 4] = [
     ("module m;C u(.A(", "{", "}", "));endmodule"),
 ];
 
+// Whether braces nest 100 deep in this place, and no deeper.
+fn nests(alloc: Global, front: &str, open: &str, close: &str, behind: &str) -> Result<bool, Fail> {
+    let deepest = nested(alloc, front, open, close, 100, behind)?;
+    let deeper = nested(alloc, front, open, close, 101, behind)?;
+    let wanted = open.len().saturating_mul(100).saturating_add(front.len());
+    let is_read = refused(alloc, deepest.as_bytes())?.is_none();
+    Ok(is_read && refused(alloc, deeper.as_bytes())? == Some(wanted))
+}
+
 #[test]
 fn braces_nest_100_deep(rt: HostRuntime) -> Result<(), Fail> {
-    let alloc = rt.alloc();
     for (front, open, close, behind) in NESTS {
-        let deepest = nested(alloc, front, open, close, 100, behind)?;
-        assert_eq!(rt; refused(alloc, deepest.as_bytes())?, None, "{front}{open}");
-        let deeper = nested(alloc, front, open, close, 101, behind)?;
-        let wanted = front.len() + 100 * open.len();
-        assert_eq!(rt;
-            refused(alloc, deeper.as_bytes())?,
-            Some(wanted),
+        assert!(rt;
+            nests(rt.alloc(), front, open, close, behind)?,
             "{front}{open}"
         );
     }
     Ok(())
 }
 
+// Whether a constant of this base has the largest size.
+fn is_large(alloc: Global, base: &str) -> Result<bool, Fail> {
+    let text = placed(alloc, "(*n=65535'", base, "1", "*)module m;endmodule")?;
+    let found = read(alloc, text.as_bytes())?;
+    let zeros = nested(alloc, "{n='", "0", "", 65_534, "}module m();")?;
+    let wanted = zeros.as_str().replace(alloc, "x", "1")?;
+    Ok(found.as_str() == wanted.as_str())
+}
+
 #[test]
 fn a_constant_has_65535_bits(rt: HostRuntime) -> Result<(), Fail> {
-    let alloc = rt.alloc();
     for base in ["h", "o", "b", "d"] {
-        let text = placed(alloc, "(*n=65535'", base, "1", "*)module m;endmodule")?;
-        let found = read(alloc, text.as_bytes())?;
-        let zeros = nested(alloc, "{n='", "0", "", 65_534, "}module m();")?;
-        let wanted = zeros.as_str().replace(alloc, "x", "1")?;
-        assert_eq!(rt; found.as_str(), wanted.as_str(), "{base}");
+        assert!(rt; is_large(rt.alloc(), base)?, "{base}");
     }
     Ok(())
 }
