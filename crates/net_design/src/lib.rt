@@ -1,0 +1,8 @@
+//! Nets as designs.
+#![tactic(auto)]
+
+mod cells;
+mod sites;
+
+pub use cells::{Cell, Next};
+pub use sites::Site;
