@@ -1,2 +1,4 @@
 pub mod Tables
 pub mod Parts
+pub mod Fitting
+pub mod OneList

@@ -15,7 +15,7 @@ enumerate_more n (y ∷ ys) x =
     ap (λ es. (n, y) ∷ es) (enumerate_more (n + 1) ys x ∙ ap (λ (k : ℕ). enumerate_from (n + 1) ys ++ (k, x) ∷ []) place)
 
 -- a text of numbered items, with one item more
-text_more : {X : Type 0} (f : ℕ × X → List ℕ) (old : List ℕ) (k : ℕ) (xs : List X) (x : X) → k ≡ length xs → (old ++ flat_map f (enumerate_from 0 xs)) ++ f (k, x) ≡ old ++ flat_map f (enumerate_from 0 (xs ++ x ∷ []))
+pub text_more : {X : Type 0} (f : ℕ × X → List ℕ) (old : List ℕ) (k : ℕ) (xs : List X) (x : X) → k ≡ length xs → (old ++ flat_map f (enumerate_from 0 xs)) ++ f (k, x) ≡ old ++ flat_map f (enumerate_from 0 (xs ++ x ∷ []))
 text_more f old k xs x e =
     let place : k ≡ 0 + length xs = omega arith in
     flat_map_more f old (enumerate_from 0 xs) (k, x)

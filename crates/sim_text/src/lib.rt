@@ -5,4 +5,5 @@ mod lines;
 mod rows;
 mod text;
 
+pub use lines::digit_of;
 pub use text::sim_text;

@@ -18,7 +18,8 @@ fn push_head(alloc: Global, text: &mut Name, stream: usize, step: usize) -> Resu
     text.extend(head.as_bytes())
 }
 
-fn digit_of(bit: bool) -> u8
+/// The digit of a bit, in ASCII.
+pub fn digit_of(bit: bool) -> u8
     ensures { result ≡ digit bit }
 {
     if bit { b'1' } else { b'0' }
