@@ -32,7 +32,7 @@ map_joined : {X Y : Type 0} (f : X → Y) (xs ys : List X) → map f (xs ++ ys) 
 map_joined f [] ys = refl
 map_joined f (x ∷ xs) ys = ap (λ zs. f x ∷ zs) (map_joined f xs ys)
 
-flags_are : (ps : List Port) → map is_random (flat_map port_roles ps) ≡ flat_map port_flags ps
+pub flags_are : (ps : List Port) → map is_random (flat_map port_roles ps) ≡ flat_map port_flags ps
 flags_are [] = refl
 flags_are (p ∷ ps) = map_joined is_random (port_roles p) (flat_map port_roles ps) ∙ ap₂ (λ xs ys. xs ++ ys) (port_roles_random p 0 (length p.bits)) (flags_are ps)
 

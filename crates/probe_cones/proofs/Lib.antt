@@ -7,3 +7,4 @@ pub mod Running
 pub mod Outputs
 pub mod Joined
 pub mod Seen
+pub mod Counted

@@ -74,21 +74,21 @@ fn flags_but(alloc: Global, ports: &[Port], clock: Option<usize>) -> Result<List
 }
 
 /// Whether each input bit of a net is random.
-pub(crate) fn random_flags(alloc: Global, net: &Net) -> Result<List<bool>, Memory>
+pub fn random_flags(alloc: Global, net: &Net) -> Result<List<bool>, Memory>
     ensures { IfOk result (λ flags. flags ≡ spec.flags_of (data_ports (plain_of net.now))) }
 {
     flags_but(alloc, net.ports.as_slice(), net.clock)
 }
 
 /// A bit of a row, and 0 past its end.
-pub(crate) fn bit_at(row: &BitRow, k: usize) -> bool
+pub fn bit_at(row: &BitRow, k: usize) -> bool
     ensures { result ≡ slice_index_or row.now k false }
 {
     k < row.len() && row.get(k)
 }
 
 /// A row from its random bits and the others.
-pub(crate) fn join(
+pub fn join(
     alloc: Global,
     flags: &[bool],
     others: &BitRow,

@@ -17,7 +17,7 @@ use cycle_sim::{Sim, SimFault};
 use std::alloc::Global;
 
 /// A simulator of a net without a loop, before its first cycle.
-pub(crate) fn begun(alloc: Global, net: &Net, power_up: &BitRow) -> Result<Sim, Memory>
+pub fn begun(alloc: Global, net: &Net, power_up: &BitRow) -> Result<Sim, Memory>
     requires no_loop { HasNoLoop (plain_of net.now) }
     requires powered { length power_up.now ≡ length net.now.registers }
     ensures { IfOk result (HasRun (plain_of net.now) power_up.now []) }
@@ -30,7 +30,7 @@ pub(crate) fn begun(alloc: Global, net: &Net, power_up: &BitRow) -> Result<Sim, 
 }
 
 /// The bits of all wires in the last cycle that was run.
-pub(crate) fn bits_of_wires(alloc: Global, sim: &Sim) -> Result<BitRow, Memory>
+pub fn bits_of_wires(alloc: Global, sim: &Sim) -> Result<BitRow, Memory>
     ensures { IfOk result (λ bits. (net : PlainNet) (power : Row) (before : List Row) (last : Row) → HasNoLoop net →
         Fits net power (before ++ last ∷ []) → HasRun net power (before ++ last ∷ []) sim.now →
         bits ≡ wires_in net power (before ++ last ∷ []) (length before)) }

@@ -6,12 +6,8 @@ use Rattle.agm_net.specs.declared.label.Part.{Part as PartOf}
 use Rattle.agm_net.specs.declared.label.PartKind.{PartKind}
 use Rattle.agm_net.specs.declared.label.PartKind.TheVariants.{Clk as KClk, A as KA, B as KB, R as KR, Rr as KRr, Bb as KBb, Vx as KVx, V as KV, Na as KNa, Ux as KUx, U as KU, Wx as KWx, W as KW, Mx as KMx, M as KM, S as KS, C as KC}
 use Rattle.probe_cones.specs.Inputs.{random_bit, share_bit, open_bit, is_random, bit_role, share_role}
+use Rattle.twin_tape.specs.Pairs.{wire_named}
 use Rattle.twin_tape.proofs.Network.{part_share, HasPart}
-
--- the first wire of a name
-abbrev pub wire_named : List (List ℕ) → List ℕ → ℕ
-wire_named [] name = 0
-wire_named (n ∷ ns) name = cond (bytes_eq n name) 0 (suc (wire_named ns name))
 
 pub named_found : (ns : List (List ℕ)) (name : List ℕ) (w : ℕ) → w < length ns → slice_index_or ns w [] ≡ name
     → (wire_named ns name < length ns) × (slice_index_or ns (wire_named ns name) [] ≡ name)

@@ -21,7 +21,8 @@ use Rattle.agm_net.proofs.OneLabel.{one_label, has_part_label}
 use Rattle.agm_net.proofs.OnePart.{one_part}
 use Rattle.agm_net.proofs.OneWire.{one_wire}
 use Rattle.probe_cones.specs.Inputs.{BitRole, random_bit, open_bit, is_random, bit_role, share_role, port_roles, bit_roles, random_width}
-use Rattle.twin_tape.proofs.Bridge.{wire_named, named_found, part_is, random_role}
+use Rattle.twin_tape.specs.Pairs.{wire_named}
+use Rattle.twin_tape.proofs.Bridge.{named_found, part_is, random_role}
 use Rattle.twin_tape.proofs.Heads.{lead, of_random, part_lead, random_label}
 use Rattle.twin_tape.proofs.Network.{Tag, ClockWire, Public, RandomBit, Plain, Part, Names}
 use Rattle.twin_tape.proofs.Places.{place_of, placed}

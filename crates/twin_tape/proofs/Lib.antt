@@ -14,6 +14,7 @@ mod Induction
 mod Isolation
 mod KnownSets
 mod Labels
+mod Naming
 mod Network
 mod Once
 mod PairCases
@@ -21,6 +22,8 @@ mod Parts
 mod PermittedIs
 mod Places
 mod PortNames
+mod Running
+mod RowsMade
 mod Rules
 mod Secure
 mod ShareReads
@@ -36,3 +39,5 @@ mod Twins
 mod Views
 mod WholeTwins
 mod Worlds
+mod Pairing
+mod Rowing

@@ -28,7 +28,8 @@ use Rattle.probe_cones.specs.Shares.{is_share}
 use Rattle.probe_cones.specs.Cone.{output_bits_of}
 use Rattle.probe_cones.specs.Inputs.{BitRole, Secret, share_bit, open_bit, is_random, bit_roles, roles}
 use Rattle.twin_tape.specs.Security.{role_at, sees}
-use Rattle.twin_tape.proofs.Bridge.{wire_named, part_is, random_role, other_role, share_kind_is, to_numbers, from_numbers, IsBounded}
+use Rattle.twin_tape.specs.Pairs.{wire_named}
+use Rattle.twin_tape.proofs.Bridge.{part_is, random_role, other_role, share_kind_is, to_numbers, from_numbers, IsBounded}
 use Rattle.twin_tape.proofs.Heads.{lead, Headed, of_port, of_random, of_share_name, headed_lead, headed_one, not_public, random_label, share_label}
 use Rattle.twin_tape.proofs.Labels.{tag, label_at, label_is, label_of_part, part_of_label, random_wire, names, wire_is, random_source, random_bits, found_random, pair_gadget, pair_small, pair_great}
 use Rattle.twin_tape.proofs.Network.{Tag, Public, RandomBit, Plain, Part, share_of, Names, MayRead, HasPart, Stores, ReadsShare, IsPart, Keeps, IsNetwork}

@@ -135,13 +135,13 @@ crossing_kinds KWx e = inr refl
 crossing_kinds _ e = absurd (true≢false (sym e))
 
 module _ (net : PlainNet) (d : ℕ) (well : WellFormed net) (hpc2 : Hpc2 net d) (label : ℕ → Label) (labels : AreLabels net d label) (T : ℕ) (probes : List Probe) (A : List ℕ) (inside : AreProbes net T probes) where
-  abbrev own : Names
+  abbrev pub own : Names
   own = names net d well hpc2
 
-  abbrev ordered : Ranked net
+  abbrev pub ordered : Ranked net
   ordered = ranked_by net well hpc2.no_loop
 
-  abbrev In : ℕ → Type 0
+  abbrev pub In : ℕ → Type 0
   In g = There net own d (is_network net d well hpc2) ordered g
 
   part_in : (w : ℕ) (p : PartOf) → IsPartOf net d w p → w < length net.wires
@@ -150,7 +150,7 @@ module _ (net : PlainNet) (d : ℕ) (well : WellFormed net) (hpc2 : Hpc2 net d) 
       (λ (le : length net.wires ≤ w). absurd (let none : [] ≡ part_name (d + 1) p.gadget p.kind p.i p.j = sym (past_end net.wires w [] le) ∙ is.4 in cc))
       (cases_lt w (length net.wires))
 
-  part_at : (g : ℕ) → In g → (k : PartKind) (a b : ℕ) → HasPart d k a b → IsPartOf net d (own.part g k a b) (part g k a b)
+  pub part_at : (g : ℕ) → In g → (k : PartKind) (a b : ℕ) → HasPart d k a b → IsPartOf net d (own.part g k a b) (part g k a b)
   part_at g there k a b fits = let p = there k a b fits in part_of_label net d well hpc2 (own.part g k a b) g k a b p.0 p.1
 
   abbrev Is : ℕ → ℕ → ℕ → ℕ → Bool
@@ -218,7 +218,7 @@ module _ (net : PlainNet) (d : ℕ) (well : WellFormed net) (hpc2 : Hpc2 net d) 
         ap₂ (λ u v. cond (has (known (sights label probes) A T (suc t)) i) (cond (has (known (sights label probes) A T (suc t)) j) false u) (cond (has (known (sights label probes) A T (suc t)) j) v false))
         (half_is t i j ne le_i le_j) (half_is t j i (λ e. ne (sym e)) le_j le_i)
 
-  tag_random : (w : ℕ) (a : Label) (h : HasLabel net d w a) (g i j : ℕ) → tag net d well hpc2 w a h ≡ RandomBit g i j → HasLabel net d w (l_random g i j)
+  pub tag_random : (w : ℕ) (a : Label) (h : HasLabel net d w a) (g i j : ℕ) → tag net d well hpc2 w a h ≡ RandomBit g i j → HasLabel net d w (l_random g i j)
   tag_random w l_clock (inl e) g i j is = absurd (let no = is in cc)
   tag_random w l_clock (inr p) g i j is = absurd (let no = is in cc)
   tag_random w l_public h g i j is = absurd (let no = is in cc)
@@ -229,20 +229,23 @@ module _ (net : PlainNet) (d : ℕ) (well : WellFormed net) (hpc2 : Hpc2 net d) 
   tag_random w (l_share i' (Some p)) h g i j is = absurd (let no = is in cc)
   tag_random w (l_inner p) h g i j is = absurd (let no = is in cc)
 
-  abbrev wire_at : ℕ → ℕ
+  abbrev pub wire_at : ℕ → ℕ
   wire_at = random_wire net d well hpc2
 
   longs : length (bit_roles net) ≡ length (input_bits net)
   longs = roles_long (filter is_input (data_ports net))
 
-  bit_wire : (n : ℕ) → n < random_width net → slice_get (random_bits_of net) n ≡ Some (wire_at n)
+  pub bit_wire : (n : ℕ) → n < random_width net → slice_get (random_bits_of net) n ≡ Some (wire_at n)
   bit_wire n small = ap (λ ws. slice_get ws n) (picks_ports (data_ports net)) ∙ picks_at (bit_roles net) (input_bits net) n longs small
 
-  bit_small : (n w : ℕ) → slice_get (random_bits_of net) n ≡ Some w → n < random_width net
+  pub bit_small : (n w : ℕ) → slice_get (random_bits_of net) n ≡ Some w → n < random_width net
   bit_small n w e =
       let h = found_small (random_bits_of net) n w e in
       let a = ap (λ ws. length ws) (picks_ports (data_ports net)) in
       let b = picks_long (bit_roles net) (input_bits net) longs in omega arith
+
+  pub bits_long : length (random_bits_of net) ≡ random_width net
+  bits_long = ap (λ ws. length ws) (picks_ports (data_ports net)) ∙ picks_long (bit_roles net) (input_bits net) longs
 
   module _ (power : Row) (first second random twin : List Row) where
     abbrev x : ℕ → ℕ → Bool

@@ -54,7 +54,7 @@ length-xor_row [] mask = refl
 length-xor_row (b ∷ row) [] = refl
 length-xor_row (b ∷ row) (m ∷ mask) = ap suc (length-xor_row row mask)
 
-same_rows : (xs ys : List Bool) → length xs ≡ length ys → ((n : ℕ) → n < length xs → slice_index_or xs n false ≡ slice_index_or ys n false) → xs ≡ ys
+pub same_rows : (xs ys : List Bool) → length xs ≡ length ys → ((n : ℕ) → n < length xs → slice_index_or xs n false ≡ slice_index_or ys n false) → xs ≡ ys
 same_rows [] [] e same = refl
 same_rows [] (y ∷ ys) e same = absurd (omega arith)
 same_rows (x ∷ xs) [] e same = absurd (omega arith)

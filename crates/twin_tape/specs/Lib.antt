@@ -5,3 +5,7 @@ pub mod Allowed
 pub mod Security
 pub mod Tapes
 pub mod Twin
+pub mod Pairs
+pub mod Plans
+pub mod Changes
+pub mod Twinned

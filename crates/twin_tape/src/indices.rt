@@ -60,7 +60,7 @@ fn take_one(sight: Sight, stage: usize, indices: &mut Vec<usize>) -> Result<(), 
 }
 
 // The same for each inner probe of a stage, in order.
-fn grow(sights: &[Sight], stage: usize, indices: &mut Vec<usize>) -> Result<(), Memory>
+pub(crate) fn grow(sights: &[Sight], stage: usize, indices: &mut Vec<usize>) -> Result<(), Memory>
     ensures { IfOk result (λ _. indices.new.items ≡ grown sights.now stage indices.old.items) }
 {
     for sight in sights {
@@ -80,7 +80,7 @@ fn begin_one(sight: Sight, indices: &mut Vec<usize>) -> Result<(), Memory>
 }
 
 // Adds the indices of plain probes, the last one first.
-fn begin(sights: &[Sight], indices: &mut Vec<usize>) -> Result<(), Memory>
+pub(crate) fn begin(sights: &[Sight], indices: &mut Vec<usize>) -> Result<(), Memory>
     ensures { IfOk result (λ _. indices.new.items ≡ begun sights.now indices.old.items) }
 {
     for k in 0..sights.len() {

@@ -2,8 +2,12 @@
 #![tactic(auto)]
 
 mod agreement;
+mod changes;
 mod indices;
 mod laws;
+mod making;
+mod pairs;
+mod plan;
 mod sight;
 mod twin_laws;
 
@@ -14,5 +18,6 @@ pub use laws::{
     joined_and_split, networks_isolate, networks_keep_secrets, permitted_are_few,
     permitted_isolate, split_and_joined, sums_stay, twins_isolate,
 };
+pub use making::twin;
 pub use sight::Sight;
 pub use twin_laws::{one_twin, twins_are_seen_alike, twins_exist, twins_lead_back};
