@@ -1,0 +1,14 @@
+pub mod Sharings
+pub mod Rows
+pub mod Drawing
+pub mod Marked
+pub mod Chosen
+pub mod Turns
+pub mod Parts
+pub mod Filling
+pub mod Wide
+pub mod Shared
+pub mod Entries
+pub mod Recombined
+pub mod Steps
+pub mod Driving

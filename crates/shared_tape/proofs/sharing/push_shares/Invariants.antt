@@ -1,0 +1,7 @@
+use Rattle.std.proofs.Common.{◌≡◌, ◌++◌}
+use Rattle.std.specs.List.{flat_map, range_with_len}
+use Rattle.shared_tape.specs.Sharing.{share_row}
+use Rattle.shared_tape.proofs.sharing.push_shares.Given as goal
+
+abbrev pub invariant-loop-i : goal.invariant-loop-i
+invariant-loop-i l = l.row ≡ l.initial.row ++ flat_map (share_row l.draws l.order l.first l.values) (range_with_len 0 l.i)

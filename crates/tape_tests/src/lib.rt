@@ -1,0 +1,5 @@
+//! Tests of tapes for masked nets.
+#![tactic(auto)]
+
+#[cfg(test)]
+mod shared;
