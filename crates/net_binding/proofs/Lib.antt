@@ -6,3 +6,4 @@ mod Given
 mod Listed
 mod Made
 mod Found
+mod Numbers

@@ -1,7 +1,8 @@
-ghost use Rattle.std.specs.Prelude.{◌≡◌, ◌++◌, Some, map, slice_get, IfOk, IfSome};
+ghost use Rattle.std.specs.Prelude.{◌≡◌, ◌++◌, [], Some, None, map, slice_get, IfOk, IfSome};
 ghost use Rattle.std.specs.Option.{option_map};
 ghost use Rattle.verilog_reader.specs.View.{module_view};
 ghost use Rattle.module_outlines.specs.View.{Outlines};
+ghost use Rattle.module_rules.specs.Rules.{first_repeated};
 ghost use Rattle.net_binding.specs.Ready.{AreOutlines, Ready};
 ghost use Rattle.net_binding.specs.Walk.{module_name};
 
@@ -53,15 +54,14 @@ pub(crate) fn outlined<'d>(parts: Parts<'d>, number: usize) -> Option<Outlined<'
     }
 }
 
-/// The names of the modules of a design. Two that are the same are want of memory, which the caller knows not to come.
+/// The names of the modules of a design, which differ.
 pub(crate) fn numbers_of(alloc: Global, modules: &[Module]) -> Result<Names, Memory>
+    requires { first_repeated [] (map module_name (map module_view modules.now)) ≡ None }
     ensures { IfOk result (λ t. t ≡ map module_name (map module_view modules.now)) }
 {
     let mut numbers = Names::new(alloc);
     for unit in modules {
-        if !numbers.add(unit.name.as_slice())?.is_new {
-            return Err(Memory);
-        }
+        numbers.add(unit.name.as_slice())?;
     }
     Ok(numbers)
 }

@@ -175,13 +175,17 @@ fn run(parts: Parts<'_>, walker: Walker) -> Result<Netlist, BindFault>
 }
 
 /// The walk over a design from its top module on.
-pub(crate) fn walk(alloc: Global, parts: Parts<'_>, top: usize) -> Result<Netlist, BindFault>
+pub(crate) fn walk(
+    alloc: Global,
+    parts: Parts<'_>,
+    top: usize,
+    own: Outlined<'_>,
+) -> Result<Netlist, BindFault>
     requires ready { Ready parts.modules.now parts.numbers.now parts.outlines.now (parts.known.now ++ parts.library.now) parts.cells.now }
+    requires own { slice_get parts.modules.now top ≡ Some own.module.now }
+    requires own_outline { Outlines (module_view own.module.now) own.outline.now }
     ensures { Gives nothing (design_events (plain_parts parts.entry.modules.now (parts.entry.known.now ++ parts.entry.library.now)) top) result }
 {
-    let Some(own) = outlined(parts, top) else {
-        return Err(BindFault::Memory);
-    };
     let prefix = List::new(alloc);
     let netlist = enter(empty_netlist(alloc), &prefix, own.outline.wides.as_slice())?;
     let frame = Frame {

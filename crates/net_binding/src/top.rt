@@ -1,4 +1,4 @@
-ghost use Rattle.std.specs.Prelude.{◌≡◌, ◌++◌, map, slice_get, slice_index_or, [], IfOk};
+ghost use Rattle.std.specs.Prelude.{◌≡◌, ◌++◌, None, map, slice_get, slice_index_or, [], IfOk};
 ghost use Rattle.cell_library.specs.Spelled.{cell_of};
 ghost use Rattle.verilog_reader.specs.View.{design_view, module_view};
 ghost use Rattle.top_module.specs.Top.{candidates as candidates_of};
@@ -6,6 +6,8 @@ ghost use Rattle.wire_drivers.specs.View.{wiring};
 ghost use Rattle.wire_drivers.specs.Wiring as wires_spec;
 ghost use Rattle.net_binding.specs.Bound.{Answers, bound, parts_of, top_outcome, module_outcome, wire_outcome, pin_outcome, fault_of as plain_fault};
 ghost use Rattle.bound_items.specs.declared.fault.BindFault.TheVariants as faults;
+ghost use Rattle.module_rules.specs.Rules.{first_repeated};
+ghost use Rattle.net_binding.specs.Walk.{module_name};
 ghost use Rattle.net_binding.specs.Ready.{Ready, plain_parts};
 
 use crate::parts::{Parts, numbers_of, outlined, outlines_of};
@@ -84,7 +86,7 @@ fn bind_walk(alloc: Global, parts: Parts<'_>, top: usize) -> Result<Net, BindFau
     let Some(own) = outlined(parts, top) else {
         return Err(BindFault::Memory);
     };
-    let netlist = walk(alloc, parts, top)?;
+    let netlist = walk(alloc, parts, top, own)?;
     let clock = find_clock(alloc, own.module)?;
     let ports = ports_of(alloc, own.outline)?;
     checked_net(alloc, ports.as_slice(), netlist, clock)
@@ -97,6 +99,7 @@ fn bind_top(
     modules: &[Module],
     top: usize,
 ) -> Result<Net, BindFault>
+    requires { first_repeated [] (map module_name (map module_view modules.now)) ≡ None }
     ensures { Answers (module_outcome (parts_of (map cell_of library.now.cells) (map module_view modules.now)) top (slice_get (map module_view modules.now) top)) result }
 {
     let known = known_cells(alloc)?;
@@ -116,6 +119,7 @@ fn bind_top(
 
 // The net of a design whose names break no rule.
 fn bind_named(alloc: Global, library: &Library, design: &Design) -> Result<Net, BindFault>
+    requires { first_repeated [] (map module_name (design_view design.now)) ≡ None }
     ensures { Answers (top_outcome (parts_of (map cell_of library.now.cells) (design_view design.now)) (candidates_of (design_view design.now))) result }
 {
     match find_top(alloc, design) {
