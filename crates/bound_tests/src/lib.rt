@@ -21,3 +21,5 @@ mod outlines_of_modules;
 mod rules_of_modules;
 #[cfg(test)]
 mod top_modules;
+#[cfg(test)]
+mod written_nets;

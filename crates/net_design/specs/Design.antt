@@ -1,5 +1,5 @@
 -- The design of a net: one module, for people to read.
-use Rattle.std.specs.Prelude.{◌==◌, ◌++◌, ◌∷◌, ℕ, Bool, true, false, cond, max, List, [], length, map, fold, replicate, Option, Some, None, is_none, codes, nat_eq}
+use Rattle.std.specs.Prelude.{◌==◌, ◌++◌, ◌∷◌, ℕ, true, false, cond, max, List, [], length, map, fold, replicate, Option, Some, None, is_none, codes, nat_eq}
 use Rattle.std.specs.List.{enumerate_from, flat_map, starts_with}
 use Rattle.std.specs.Fmt.{decimal}
 use Rattle.agm_net.specs.Formula.{Formula, f_zero, f_one, f_wire, f_not, f_and, f_or, f_xor, f_mux}

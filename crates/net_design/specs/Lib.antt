@@ -1,3 +1,4 @@
 pub mod Bits
 pub mod Sites
 pub mod Design
+pub mod Lines
