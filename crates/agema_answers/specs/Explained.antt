@@ -10,13 +10,15 @@ use Rattle.cell_library.specs.declared.types.CellCause.{CellCause}
 use Rattle.cell_library.specs.declared.types.CellCause.TheVariants.{Duplicate, Reserved}
 use Rattle.masked_writer.specs.declared.fault.ReportCause.{ReportCause}
 use Rattle.masked_writer.specs.declared.fault.ReportCause.TheVariants as report
+use Rattle.probe_lists.specs.declared.fault.ProbeCause.{ProbeCause}
+use Rattle.probe_lists.specs.declared.fault.ProbeCause.TheVariants as probe
 use Rattle.stimulus.specs.declared.fault.StimulusCause.{StimulusCause}
 use Rattle.stimulus.specs.declared.fault.StimulusCause.TheVariants.{Json, Shape, Streams, Steps, Initial, Inputs, Bits, Cycles}
 use Rattle.agema_answers.specs.Status.{status_of}
 use Rattle.agema_answers.specs.declared.ended.Ended.{Ended}
 use Rattle.agema_answers.specs.declared.ended.Ended.TheVariants.{Done, Usage, ReadFault, WriteFault, PrintFault, Memory, Refused}
 use Rattle.agema_answers.specs.declared.refusal.Refusal.{Refusal}
-use Rattle.agema_answers.specs.declared.refusal.Refusal.TheVariants.{TooLong, LibrarySyntax, Cell, NetSyntax, UnknownCell, UnknownPin, UnknownWire, Driven, Width, Top, Recursive, BarredCell, Clash, Loop, BadAnnotation, Leak, TooLarge, TooWide, BadReport, BadStimulus, NotBuilt}
+use Rattle.agema_answers.specs.declared.refusal.Refusal.TheVariants.{TooLong, LibrarySyntax, Cell, NetSyntax, UnknownCell, UnknownPin, UnknownWire, Driven, Width, Top, Recursive, BarredCell, Clash, Loop, BadAnnotation, Leak, TooLarge, TooWide, BadReport, BadStimulus, BadProbe, NotHpc2, NotBuilt}
 
 abbrev pub Text : Type 0
 Text = List ℕ
@@ -55,6 +57,14 @@ stimulus_cause_text Initial = codes "Initial"
 stimulus_cause_text Inputs = codes "Inputs"
 stimulus_cause_text Bits = codes "Bits"
 stimulus_cause_text Cycles = codes "Cycles"
+
+abbrev pub probe_cause_text : ProbeCause → Text
+probe_cause_text probe.Json = codes "Json"
+probe_cause_text probe.Shape = codes "Shape"
+probe_cause_text probe.Wire = codes "Wire"
+probe_cause_text probe.Cycle = codes "Cycle"
+probe_cause_text probe.Index = codes "Index"
+probe_cause_text probe.Count = codes "Count"
 
 -- a field with its value, of bytes or a number
 abbrev pub field : (name value : Text) → Text
@@ -100,6 +110,8 @@ refusal_text (TooLarge operators) = codes "TooLarge" ++ number (codes "operators
 refusal_text (TooWide bits) = codes "TooWide" ++ number (codes "bits") bits
 refusal_text (BadReport cause) = codes "BadReport" ++ field (codes "cause") (report_cause_text cause)
 refusal_text (BadStimulus cause stream step) = codes "BadStimulus" ++ (field (codes "cause") (stimulus_cause_text cause) ++ (number (codes "stream") stream ++ number (codes "step") step))
+refusal_text (BadProbe cause index) = codes "BadProbe" ++ (field (codes "cause") (probe_cause_text cause) ++ number (codes "index") index)
+refusal_text (NotHpc2 wire) = codes "NotHpc2" ++ field (codes "wire") wire
 refusal_text NotBuilt = codes "NotBuilt"
 
 abbrev pub answer_text : Ended → Text

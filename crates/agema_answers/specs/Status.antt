@@ -3,7 +3,7 @@ use Rattle.std.specs.Prelude.{ℕ}
 use Rattle.agema_answers.specs.declared.ended.Ended.{Ended}
 use Rattle.agema_answers.specs.declared.ended.Ended.TheVariants.{Done, Usage, ReadFault, WriteFault, PrintFault, Memory, Refused}
 use Rattle.agema_answers.specs.declared.refusal.Refusal.{Refusal}
-use Rattle.agema_answers.specs.declared.refusal.Refusal.TheVariants.{TooLong, LibrarySyntax, Cell, NetSyntax, UnknownCell, UnknownPin, UnknownWire, Driven, Width, Top, Recursive, BarredCell, Clash, Loop, BadAnnotation, Leak, TooLarge, TooWide, BadReport, BadStimulus, NotBuilt}
+use Rattle.agema_answers.specs.declared.refusal.Refusal.TheVariants.{TooLong, LibrarySyntax, Cell, NetSyntax, UnknownCell, UnknownPin, UnknownWire, Driven, Width, Top, Recursive, BarredCell, Clash, Loop, BadAnnotation, Leak, TooLarge, TooWide, BadReport, BadStimulus, BadProbe, NotHpc2, NotBuilt}
 
 abbrev pub refusal_status : Refusal → ℕ
 refusal_status (TooLong file) = 10
@@ -23,6 +23,8 @@ refusal_status (Leak port) = 22
 refusal_status (TooLarge operators) = 23
 refusal_status (BadReport cause) = 24
 refusal_status (BadStimulus cause stream step) = 25
+refusal_status (BadProbe cause index) = 26
+refusal_status (NotHpc2 wire) = 27
 refusal_status (BarredCell instance cell cause) = 29
 refusal_status (Clash name) = 30
 refusal_status NotBuilt = 31

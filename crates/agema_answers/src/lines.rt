@@ -8,6 +8,7 @@ use agm_bits::{List, Memory, Name};
 use annotations::AnnotationFault;
 use cell_library::{Bar, CellCause};
 use masked_writer::ReportCause;
+use probe_lists::ProbeCause;
 use std::alloc::Global;
 use stimulus::StimulusCause;
 
@@ -63,6 +64,19 @@ fn stimulus_cause_text(cause: StimulusCause) -> &'static [u8]
         StimulusCause::Inputs => b"Inputs",
         StimulusCause::Bits => b"Bits",
         StimulusCause::Cycles => b"Cycles",
+    }
+}
+
+fn probe_cause_text(cause: ProbeCause) -> &'static [u8]
+    ensures { result.now ≡ spec.probe_cause_text cause }
+{
+    match cause {
+        ProbeCause::Json => b"Json",
+        ProbeCause::Shape => b"Shape",
+        ProbeCause::Wire => b"Wire",
+        ProbeCause::Cycle => b"Cycle",
+        ProbeCause::Index => b"Index",
+        ProbeCause::Count => b"Count",
     }
 }
 
@@ -153,6 +167,13 @@ fn stimulus_text(
     let text = one_field(alloc, b"BadStimulus", b"cause", stimulus_cause_text(cause))?;
     let text = with_number(alloc, text, b"stream", stream)?;
     with_number(alloc, text, b"step", step)
+}
+
+fn probe_text(alloc: Global, cause: ProbeCause, index: usize) -> Result<Name, Memory>
+    ensures { IfOk result (λ t. t ≡ codes "BadProbe" ++ (spec.field (codes "cause") (spec.probe_cause_text cause) ++ spec.number (codes "index") index)) }
+{
+    let text = one_field(alloc, b"BadProbe", b"cause", probe_cause_text(cause))?;
+    with_number(alloc, text, b"index", index)
 }
 
 // A fault of annotations.
@@ -271,6 +292,8 @@ fn refusal_text(alloc: Global, refusal: &Refusal) -> Result<Name, Memory>
             stream,
             step,
         } => stimulus_text(alloc, *cause, *stream, *step),
+        Refusal::BadProbe { cause, index } => probe_text(alloc, *cause, *index),
+        Refusal::NotHpc2 { wire } => one_field(alloc, b"NotHpc2", b"wire", wire.as_slice()),
         Refusal::NotBuilt => Name::from_slice(alloc, b"NotBuilt"),
     }
 }
@@ -324,6 +347,8 @@ impl Refusal {
             Refusal::TooLarge { .. } => 23,
             Refusal::BadReport { .. } => 24,
             Refusal::BadStimulus { .. } => 25,
+            Refusal::BadProbe { .. } => 26,
+            Refusal::NotHpc2 { .. } => 27,
             Refusal::BarredCell { .. } => 29,
             Refusal::Clash { .. } => 30,
             Refusal::NotBuilt => 31,

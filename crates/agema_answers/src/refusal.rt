@@ -2,6 +2,7 @@ use agm_bits::{List, Name};
 use annotations::AnnotationFault;
 use cell_library::{Bar, CellCause};
 use masked_writer::ReportCause;
+use probe_lists::ProbeCause;
 use stimulus::StimulusCause;
 
 /// Why an input is refused.
@@ -95,6 +96,15 @@ pub enum Refusal {
         cause: StimulusCause,
         stream: usize,
         step: usize,
+    },
+    /// The text is no list of probes of the netlist. `index` is a place in the list of probes or in that of indices.
+    BadProbe {
+        cause: ProbeCause,
+        index: usize,
+    },
+    /// The netlist is no HPC2 network of the order: its first wire that breaks a rule.
+    NotHpc2 {
+        wire: Name,
     },
     /// It asks for what isn't built yet.
     NotBuilt,

@@ -33,6 +33,26 @@ pub(crate) const HELP: &str =
 
     It prints the line of mask again, by the report beside OUT.
 
+  agema audit OUT D
+
+    OUT      a netlist, over the cells that are known without a library
+    D        the order, 1 to 7
+
+  for example:  agema audit parity_masked.v 1
+
+    It tells whether the netlist is an HPC2 network of that order, in which probes isolate, and prints one line: order,
+    gadgets, random bits a cycle. Whatever mask writes is one. Names tell what a wire may read.
+
+  agema cones OUT D PROBES
+
+    PROBES   at most D probes and share indices, as JSON:
+             {\"indices\":[],\"probes\":[{\"cycle\":0,\"wire\":\"x\"}]}
+
+  for example:  agema cones parity_masked.v 1 examples/probes.json
+
+    OUT is audited first. It prints a line for each probe with what glitches can bring to it: the names of inputs and
+    registers. A last line has the share indices that probes and indices together may depend on.
+
   agema --help       prints this
   agema --version    prints the version
 
@@ -60,6 +80,8 @@ exit status
   23  the design is too large: its operators times shares squared exceed 65,536
   24  the report is wrong
   25  the stimulus is wrong
+  26  the list of probes is wrong
+  27  the netlist is no HPC2 network of the order: the wire that is named breaks a rule
   29  a cell of the library cannot be used
   30  a name is taken
   31  what is asked for is not built yet

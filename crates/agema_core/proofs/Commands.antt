@@ -10,8 +10,8 @@ use Rattle.share_wiring.specs.declared.report.Mode.TheVariants.{Naive, Aig, Bdd}
 use Rattle.share_wiring.specs.declared.report.Balance.{Balance}
 use Rattle.share_wiring.specs.declared.report.Balance.TheVariants.{Pipe, Gate}
 use Rattle.masked_writer.specs.Report.{mode_text, balance_text}
-use Rattle.agema_core.specs.Words.{Mask, Sim, IsOrder, IsMask, IsSim, Reporting, IsReporting, Request, mask, sim, reporting, Asks}
-use Rattle.agema_core.specs.Command.{◌>>=◌, order_of, mode_of, balance_of, is_filled, are_names, parts_of, mask_request, command_of}
+use Rattle.agema_core.specs.Words.{Mask, Sim, IsOrder, IsMask, IsSim, Reporting, IsReporting, Auditing, IsAuditing, Probing, IsProbing, Request, mask, sim, reporting, auditing, probing, Asks}
+use Rattle.agema_core.specs.Command.{◌>>=◌, order_of, mode_of, balance_of, is_filled, are_names, parts_of, mask_request, audit_by, audit_request, cones_by, cones_request, sim_request, command_of}
 
 -- the two ways of a choice
 chosen : {X : Type 0} (b : Bool) (x y z : X) → cond b x y ≡ z → ((b ≡ true) × (x ≡ z)) ⊎ ((b ≡ false) × (y ≡ z))
@@ -141,10 +141,25 @@ sim_read words s is =
 report_read : (words : List (List ℕ)) (r : Reporting) → IsReporting words r → command_of words ≡ Some (reporting r)
 report_read words r is = let out = some_filled r.out is.has_out in ap command_of is.words_are ∙ rw out refl
 
+-- those of an `audit` command are read as it
+audit_read : (words : List (List ℕ)) (a : Auditing) → IsAuditing words a → command_of words ≡ Some (auditing a)
+audit_read words a is =
+    let out = some_filled a.out is.has_out in
+    ap command_of is.words_are ∙ rw out (ap (audit_by a.out) (order_read a.order is.order_fits))
+
+-- those of a `cones` command are read as it
+cones_read : (words : List (List ℕ)) (p : Probing) → IsProbing words p → command_of words ≡ Some (probing p)
+cones_read words p is =
+    let out = some_filled p.out is.has_out in
+    let probes = some_filled p.probes is.has_probes in
+    ap command_of is.words_are ∙ rw (out, probes) (ap (cones_by p.out p.probes) (order_read p.order is.order_fits))
+
 pub command_read : (words : List (List ℕ)) (r : Request) → Asks words r → command_of words ≡ Some r
 command_read words (mask m) is = mask_read words m is
 command_read words (sim s) is = sim_read words s is
 command_read words (reporting r) is = report_read words r is
+command_read words (auditing a) is = audit_read words a is
+command_read words (probing p) is = cones_read words p is
 
 -- what names that are none is not empty
 names_are : (own command first second third : List ℕ) → are_names own command first second third ≡ true
@@ -158,6 +173,50 @@ names_are own command first second third h =
 request_some : (o : Option Mask) (r : Request) → mask_request o ≡ Some r → (m : Mask) × (o ≡ Some m) × (mask m ≡ r)
 request_some None r h = cc
 request_some (Some m) r h = (m, refl, cc)
+
+audit_some : (out : List ℕ) (o : Option ℕ) (r : Request) → audit_by out o ≡ Some r → (d : ℕ) × (o ≡ Some d) × (auditing (record { out = out; order = d }) ≡ r)
+audit_some out None r h = cc
+audit_some out (Some d) r h = (d, refl, cc)
+
+cones_some : (out probes : List ℕ) (o : Option ℕ) (r : Request) → cones_by out probes o ≡ Some r → (d : ℕ) × (o ≡ Some d) × (probing (record { out = out; order = d; probes = probes }) ≡ r)
+cones_some out probes None r h = cc
+cones_some out probes (Some d) r h = (d, refl, cc)
+
+-- four words that are read as a `sim` command
+sim_asked : (command library net stimulus : List ℕ) (r : Request) → sim_request command library net stimulus ≡ Some r → Asks (command ∷ library ∷ net ∷ stimulus ∷ []) r
+sim_asked command library net stimulus r h =
+    elim (chosen (are_names (codes "sim") command library net stimulus) (Some (sim (record { library = library; net = net; stimulus = stimulus }))) None (Some r) h) [
+      | inl y ↦ (
+          let names = names_are (codes "sim") command library net stimulus y.0 in
+          let s : Sim = record { library = library; net = net; stimulus = stimulus } in
+          let same : sim s ≡ r = (let e = y.1 in cc) in
+          let is : IsSim (command ∷ library ∷ net ∷ stimulus ∷ []) s = record {
+            words_are = (let w = names.0 in cc);
+            has_library = names.1;
+            has_net = names.2;
+            has_stimulus = names.3;
+          } in
+          subst (Asks (command ∷ library ∷ net ∷ stimulus ∷ [])) same is)
+      | inr n ↦ (let e = n.1 in cc)
+    ]
+
+-- four words that are read as a `cones` command
+cones_asked : (command out order probes : List ℕ) (r : Request) → bytes_eq command (codes "cones") ≡ true → cones_request out order probes ≡ Some r → Asks (command ∷ out ∷ order ∷ probes ∷ []) r
+cones_asked command out order probes r own h =
+    elim (chosen (is_filled out && is_filled probes) (cones_by out probes (order_of order)) None (Some r) h) [
+      | inl y ↦ (
+          let parts = both (is_filled out) (is_filled probes) y.0 in
+          let found = cones_some out probes (order_of order) r y.1 in
+          let fits = read_order order found.0 found.1 in
+          let is : IsProbing (command ∷ out ∷ order ∷ probes ∷ []) (record { out = out; order = found.0; probes = probes }) = record {
+            words_are = (let w = same_bytes command (codes "cones") own in let d = fits.1 in cc);
+            order_fits = fits.0;
+            has_out = filled_some out parts.0;
+            has_probes = filled_some probes parts.1;
+          } in
+          subst (Asks (command ∷ out ∷ order ∷ probes ∷ [])) found.2 is)
+      | inr n ↦ (let e = n.1 in cc)
+    ]
 
 -- what is read is what the words ask for
 pub read_command : (words : List (List ℕ)) (r : Request) → command_of words ≡ Some r → Asks words r
@@ -178,19 +237,23 @@ read_command (command ∷ library ∷ net ∷ order ∷ mode ∷ balance ∷ out
           subst (Asks (command ∷ library ∷ net ∷ order ∷ mode ∷ balance ∷ out ∷ [])) found.2 is)
       | inr n ↦ (let e = n.1 in cc)
     ]
-read_command (command ∷ library ∷ net ∷ stimulus ∷ []) r h =
-    elim (chosen (are_names (codes "sim") command library net stimulus) (Some (sim (record { library = library; net = net; stimulus = stimulus }))) None (Some r) h) [
+read_command (command ∷ first ∷ second ∷ third ∷ []) r h =
+    elim (chosen (bytes_eq command (codes "cones")) (cones_request first second third) (sim_request command first second third) (Some r) h) [
+      | inl y ↦ cones_asked command first second third r y.0 y.1
+      | inr n ↦ sim_asked command first second third r n.1
+    ]
+read_command (command ∷ out ∷ order ∷ []) r h =
+    elim (chosen (bytes_eq command (codes "audit") && is_filled out) (audit_by out (order_of order)) None (Some r) h) [
       | inl y ↦ (
-          let names = names_are (codes "sim") command library net stimulus y.0 in
-          let s : Sim = record { library = library; net = net; stimulus = stimulus } in
-          let same : sim s ≡ r = (let e = y.1 in cc) in
-          let is : IsSim (command ∷ library ∷ net ∷ stimulus ∷ []) s = record {
-            words_are = (let w = names.0 in cc);
-            has_library = names.1;
-            has_net = names.2;
-            has_stimulus = names.3;
+          let parts = both (bytes_eq command (codes "audit")) (is_filled out) y.0 in
+          let found = audit_some out (order_of order) r y.1 in
+          let fits = read_order order found.0 found.1 in
+          let is : IsAuditing (command ∷ out ∷ order ∷ []) (record { out = out; order = found.0 }) = record {
+            words_are = (let w = same_bytes command (codes "audit") parts.0 in let d = fits.1 in cc);
+            order_fits = fits.0;
+            has_out = filled_some out parts.1;
           } in
-          subst (Asks (command ∷ library ∷ net ∷ stimulus ∷ [])) same is)
+          subst (Asks (command ∷ out ∷ order ∷ [])) found.2 is)
       | inr n ↦ (let e = n.1 in cc)
     ]
 read_command (command ∷ out ∷ []) r h =

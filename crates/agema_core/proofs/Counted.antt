@@ -14,13 +14,6 @@ short f [] h = refl
 short f (a ∷ []) h = refl
 short f (a ∷ b ∷ ws) h = absurd (omega (arith, h))
 
-three : {X : Type 0} (f : X → List ℕ) (ws : List X) → 3 ≤ length ws → length ws < 4 → None ≡ command_of (map f ws)
-three f [] g h = absurd (omega (arith, g))
-three f (a ∷ []) g h = absurd (omega (arith, g))
-three f (a ∷ b ∷ []) g h = absurd (omega (arith, g))
-three f (a ∷ b ∷ c ∷ []) g h = refl
-three f (a ∷ b ∷ c ∷ d ∷ ws) g h = absurd (omega (arith, h))
-
 middle : {X : Type 0} (f : X → List ℕ) (ws : List X) → 5 ≤ length ws → length ws < 7 → None ≡ command_of (map f ws)
 middle f [] g h = absurd (omega (arith, g))
 middle f (a ∷ []) g h = absurd (omega (arith, g))
@@ -44,9 +37,6 @@ long f (a ∷ b ∷ c ∷ d ∷ e ∷ i ∷ j ∷ k ∷ ws) g = refl
 
 pub none_short : {X : Type 0} (f : X → List ℕ) (ws : List X) → nat_lt (length ws) 2 ≡ true → None ≡ command_of (map f ws)
 none_short f ws h = short f ws (below (length ws) 2 h)
-
-pub none_three : {X : Type 0} (f : X → List ℕ) (ws : List X) → nat_lt (length ws) 3 ≡ false → nat_lt (length ws) 4 ≡ true → None ≡ command_of (map f ws)
-none_three f ws g h = three f ws (from (length ws) 3 g) (below (length ws) 4 h)
 
 pub none_middle : {X : Type 0} (f : X → List ℕ) (ws : List X) → nat_lt (length ws) 5 ≡ false → nat_lt (length ws) 7 ≡ true → None ≡ command_of (map f ws)
 none_middle f ws g h = middle f ws (from (length ws) 5 g) (below (length ws) 7 h)

@@ -7,15 +7,17 @@ use Rattle.cell_library.specs.Spelled.{Spelled, cell_name, first_fault}
 use Rattle.agema_texts.specs.Original.{EndsBy, length_limit}
 use Rattle.agema_texts.specs.Masks.{Masks, CanMask, IsWithin, IsUnmasked}
 use Rattle.agema_texts.proofs.Ends.{of_binding}
+use Rattle.agema_texts.specs.Auditing.{CanAudit, IsUnaudited}
+use Rattle.agema_texts.specs.Probing.{CanProbe, IsBadList, IsNetwork, IsUnprobed}
 use Rattle.agema_texts.specs.Reported.{CanReport, IsBadReport}
 use Rattle.agema_texts.specs.Sims.{CanSim, IsClocked, IsUnclocked, IsUndriven, IsBadStimulus, IsSimulated, Sims}
 use Rattle.agema_answers.specs.declared.ended.Ended.{Ended}
 use Rattle.agema_answers.specs.declared.ended.Ended.TheVariants.{Done, Usage, ReadFault, WriteFault, PrintFault, Memory, Refused}
 use Rattle.agema_answers.specs.declared.refusal.Refusal.{Refusal}
-use Rattle.agema_answers.specs.declared.refusal.Refusal.TheVariants.{TooLong, LibrarySyntax, Cell, BadReport, BadStimulus}
-use Rattle.agema_core.specs.Words.{Mask, Sim, Reporting, Request, mask, sim, reporting, Asks, HasOrder}
+use Rattle.agema_answers.specs.declared.refusal.Refusal.TheVariants.{TooLong, LibrarySyntax, Cell, BadReport, BadStimulus, BadProbe}
+use Rattle.agema_core.specs.Words.{Mask, Sim, Reporting, Auditing, Probing, Request, mask, sim, reporting, auditing, probing, Asks, HasOrder}
 use Rattle.agema_core.specs.Found.{Counts, Found, Holds, Told, IsTooLong, IsDash, IsLibrary, IsNoLibrary, HasWrongCell, IsWrongLibrary, AreCells, HoldsBoth, ToldBoth, IsLibraryEnd, IsInputEnd, IsReadEnd, IsPrintEnd}
-use Rattle.agema_core.specs.Answer.{HasCause, AtLibraryOr, MaskFits, IsMasked, SimFits, IsRunnable, IsMaskEnd, IsSimEnd, IsReportEnd, report_name, IsComplete, NothingFails}
+use Rattle.agema_core.specs.Answer.{HasCause, AtLibraryOr, MaskFits, IsMasked, SimFits, IsRunnable, IsMaskEnd, IsSimEnd, IsReportEnd, IsAuditEnd, AuditFits, IsConesEnd, ConesFit, OutFits, ProbesFit, report_name, IsComplete, NothingFails}
 use Rattle.agema_core.specs.Left.{IsDelivery}
 
 -- the words of a command are not refused as words
@@ -28,6 +30,12 @@ sim_not_usage s f before now ended h e = let P : Ended → Type 0 = λ x. IsSimE
 report_not_usage : (r : Reporting) (f : Found) (before now : Counts) (ended : Ended) → IsReportEnd r f before now ended → ended ≡ Usage → Prim.⊥
 report_not_usage r f before now ended h e = let P : Ended → Type 0 = λ x. IsReportEnd r f before now x in subst P e h
 
+audit_not_usage : (a : Auditing) (f : Found) (before now : Counts) (ended : Ended) → IsAuditEnd a f before now ended → ended ≡ Usage → Prim.⊥
+audit_not_usage a f before now ended h e = let P : Ended → Type 0 = λ x. IsAuditEnd a f before now x in subst P e h
+
+cones_not_usage : (p : Probing) (f : Found) (before now : Counts) (ended : Ended) → IsConesEnd p f before now ended → ended ≡ Usage → Prim.⊥
+cones_not_usage p f before now ended h e = let P : Ended → Type 0 = λ x. IsConesEnd p f before now x in subst P e h
+
 library_not_usage : (name : List ℕ) (tells sound : Bool) (held : Option (List ℕ)) (before now : ℕ) (ended : Ended) → IsLibraryEnd name tells sound held before now ended → ended ≡ Usage → Prim.⊥
 library_not_usage name tells sound held before now ended h e = let P : Ended → Type 0 = λ x. IsLibraryEnd name tells sound held before now x in subst P e h
 
@@ -38,9 +46,11 @@ not_usage (mask m) f before now ended (inr (built, inr behind)) e = mask_not_usa
 not_usage (sim s) f before now ended (inl at) e = library_not_usage s.library f.tells f.sound (f.holds s.library) before.reads now.reads ended at.1 e
 not_usage (sim s) f before now ended (inr behind) e = sim_not_usage s f before now ended behind.1 e
 not_usage (reporting r) f before now ended h e = report_not_usage r f before now ended h e
+not_usage (auditing a) f before now ended h e = audit_not_usage a f before now ended h e
+not_usage (probing p) f before now ended h e = cones_not_usage p f before now ended h e
 
 -- what is told of the text that is held
-told_of : (tells : Bool) (held : Option (List ℕ)) (Fact : List ℕ → Type 0) (text : List ℕ) → held ≡ Some text → IsTrue tells → Told tells held Fact → Fact text
+pub told_of : (tells : Bool) (held : Option (List ℕ)) (Fact : List ℕ → Type 0) (text : List ℕ) → held ≡ Some text → IsTrue tells → Told tells held Fact → Fact text
 told_of tells held Fact text is heard told =
     let other = told heard in
     let same : other.0 ≡ text = (let e = other.1 in cc) in
@@ -231,14 +241,88 @@ report_completes r f before now PrintFault once sound end held nothing = elim no
 report_completes r f before now (Refused refusal) once sound end held nothing =
     absurd (report_not_refused r f before now refusal once (tells_of f before now sound nothing) held end)
 
+-- by the law that what can be audited is not refused
+abbrev pub AuditsOnce : Type 0
+AuditsOnce = (bytes : List ℕ) (order : ℕ) (refusal : Refusal) → CanAudit bytes order → IsUnaudited bytes order refusal → Prim.⊥
+
+-- a text that gives an HPC2 network is not refused
+audit_not_refused : (a : Auditing) (f : Found) (before now : Counts) (refusal : Refusal) → AuditsOnce → IsTrue f.tells → Holds (f.holds a.out) (λ text. CanAudit text a.order) → IsAuditEnd a f before now (Refused refusal) → Prim.⊥
+audit_not_refused a f before now (TooLong file) once tells (text, is, can) end =
+    let long = told_of f.tells (f.holds a.out) IsTooLong text is tells end.1 in
+    let short = can.1.0 in
+    absurd (omega arith)
+audit_not_refused a f before now refusal once tells (text, is, can) end =
+    once text a.order refusal can (told_of f.tells (f.holds a.out) (λ text. IsUnaudited text a.order refusal) text is tells end)
+
+audit_completes : (a : Auditing) (f : Found) (before now : Counts) (ended : Ended) → AuditsOnce → (IsTrue f.sound → IsTrue f.tells) → IsAuditEnd a f before now ended → Holds (f.holds a.out) (λ text. CanAudit text a.order) → NothingFails f before now → (ended ≡ Done) ⊎ (ended ≡ Memory)
+audit_completes a f before now Done once sound end held nothing = inl refl
+audit_completes a f before now Memory once sound end held nothing = inr refl
+audit_completes a f before now Usage once sound end held nothing = absurd end
+audit_completes a f before now (WriteFault file) once sound end held nothing = absurd end
+audit_completes a f before now (ReadFault file) once sound end held nothing = elim nothing [
+  | inl counts ↦ absurd (counts.1.reads end.1.0)
+  | inr sure ↦ (let none = end.1.1 sure.0 in let some = held.1 in cc)
+]
+audit_completes a f before now PrintFault once sound end held nothing = elim nothing [
+  | inl counts ↦ absurd (counts.1.prints end.1.0)
+  | inr sure ↦ absurd (end.1.1 sure.1)
+]
+audit_completes a f before now (Refused refusal) once sound end held nothing =
+    absurd (audit_not_refused a f before now refusal once (tells_of f before now sound nothing) held end)
+
+-- by the law that probes that can be told of are not refused
+abbrev pub ProbesOnce : Type 0
+ProbesOnce = (bytes : List ℕ) (order : ℕ) (text : List ℕ) (refusal : Refusal) → CanProbe bytes order text → IsUnprobed bytes order text refusal → Prim.⊥
+
+-- probes of a network are not refused
+cones_not_refused : (p : Probing) (f : Found) (before now : Counts) (refusal : Refusal) → AuditsOnce → ProbesOnce → IsTrue f.tells → Holds (f.holds p.out) (ProbesFit p f) → IsConesEnd p f before now (Refused refusal) → Prim.⊥
+cones_not_refused p f before now (TooLong file) once probed tells (text, is, (list, asks, (net, asked, network, has))) (inl (named, long)) =
+    let above = told_of f.tells (f.holds p.out) IsTooLong text is tells long in
+    let short = network.0.0 in
+    absurd (omega arith)
+cones_not_refused p f before now (TooLong file) once probed tells (text, is, (list, asks, (net, asked, network, has))) (inr (fits, named, long)) =
+    let above = told_of f.tells (f.holds p.probes) IsTooLong list asks tells long in
+    let short = has.0 in
+    absurd (omega arith)
+cones_not_refused p f before now (BadProbe cause index) once probed tells (text, is, (list, asks, can)) end =
+    let Bad : List ℕ → Type 0 = λ text. Holds (f.holds p.probes) (λ probes. IsUnprobed text p.order probes (BadProbe cause index)) in
+    let bad = told_of f.tells (f.holds p.out) Bad text is tells end in
+    let same : bad.0 ≡ list = (let e = bad.1 in cc) in
+    let P : List ℕ → Type 0 = λ t. IsUnprobed text p.order t (BadProbe cause index) in
+    probed text p.order list (BadProbe cause index) can (subst P same bad.2)
+cones_not_refused p f before now refusal once probed tells (text, is, (list, asks, (net, asked, network, has))) end =
+    once text p.order refusal (net, network.0, network.1) (told_of f.tells (f.holds p.out) (λ text. IsUnaudited text p.order refusal) text is tells end)
+
+cones_completes : (p : Probing) (f : Found) (before now : Counts) (ended : Ended) → AuditsOnce → ProbesOnce → (IsTrue f.sound → IsTrue f.tells) → IsConesEnd p f before now ended → Holds (f.holds p.out) (ProbesFit p f) → NothingFails f before now → (ended ≡ Done) ⊎ (ended ≡ Memory)
+cones_completes p f before now Done once probed sound end held nothing = inl refl
+cones_completes p f before now Memory once probed sound end held nothing = inr refl
+cones_completes p f before now Usage once probed sound end held nothing = absurd end
+cones_completes p f before now (WriteFault file) once probed sound end held nothing = absurd end
+cones_completes p f before now (ReadFault file) once probed sound (inl (named, fails)) (text, is, fits) nothing = elim nothing [
+  | inl counts ↦ absurd (counts.1.reads fails.0)
+  | inr sure ↦ (let none = fails.1 sure.0 in cc)
+]
+cones_completes p f before now (ReadFault file) once probed sound (inr (out, named, fails)) (text, is, (list, asks, can)) nothing = elim nothing [
+  | inl counts ↦ absurd (counts.1.reads fails.0)
+  | inr sure ↦ (let none = fails.1 sure.0 in cc)
+]
+cones_completes p f before now PrintFault once probed sound end held nothing = elim nothing [
+  | inl counts ↦ absurd (counts.1.prints end.1.0)
+  | inr sure ↦ absurd (end.1.1 sure.1)
+]
+cones_completes p f before now (Refused refusal) once probed sound end held nothing =
+    absurd (cones_not_refused p f before now refusal once probed (tells_of f before now sound nothing) held end)
+
 -- completeness follows from the causes
-pub completes : (r : Request) (f : Found) (before now : Counts) (ended : Ended) → SpellsOnce → MaskedOnce → RunsOnce → ReadsOnce → (IsTrue f.sound → IsTrue f.tells) → HasCause r f before now ended → IsComplete r f before now ended
-completes (mask m) f before now ended once masked runs reads sound (inl words) (built, held) nothing = absurd (words.0 built)
-completes (mask m) f before now ended once masked runs reads sound (inr (is, inl (named, at))) (built, (cells, are, text)) nothing = at_library m.library f before now ended cells once sound named at are nothing
-completes (mask m) f before now ended once masked runs reads sound (inr (is, inr (has, behind))) (built, held) nothing = mask_completes m f before now ended once masked sound behind held nothing
-completes (sim s) f before now ended once masked runs reads sound (inl (named, at)) (cells, are, text) nothing = at_library s.library f before now ended cells once sound named at are nothing
-completes (sim s) f before now ended once masked runs reads sound (inr (has, behind)) held nothing = sim_completes s f before now ended once runs sound behind held nothing
-completes (reporting r) f before now ended once masked runs reads sound end held nothing = report_completes r f before now ended reads sound end held nothing
+pub completes : (r : Request) (f : Found) (before now : Counts) (ended : Ended) → SpellsOnce → MaskedOnce → RunsOnce → ReadsOnce → AuditsOnce → ProbesOnce → (IsTrue f.sound → IsTrue f.tells) → HasCause r f before now ended → IsComplete r f before now ended
+completes (mask m) f before now ended once masked runs reads audits probed sound (inl words) (built, held) nothing = absurd (words.0 built)
+completes (mask m) f before now ended once masked runs reads audits probed sound (inr (is, inl (named, at))) (built, (cells, are, text)) nothing = at_library m.library f before now ended cells once sound named at are nothing
+completes (mask m) f before now ended once masked runs reads audits probed sound (inr (is, inr (has, behind))) (built, held) nothing = mask_completes m f before now ended once masked sound behind held nothing
+completes (sim s) f before now ended once masked runs reads audits probed sound (inl (named, at)) (cells, are, text) nothing = at_library s.library f before now ended cells once sound named at are nothing
+completes (sim s) f before now ended once masked runs reads audits probed sound (inr (has, behind)) held nothing = sim_completes s f before now ended once runs sound behind held nothing
+completes (reporting r) f before now ended once masked runs reads audits probed sound end held nothing = report_completes r f before now ended reads sound end held nothing
+completes (auditing a) f before now ended once masked runs reads audits probed sound end held nothing = audit_completes a f before now ended audits sound end held nothing
+completes (probing p) f before now ended once masked runs reads audits probed sound end held nothing = cones_completes p f before now ended audits probed sound end held nothing
 
 -- what was read is told of LIB and NET
 pub told_both : (library net : List ℕ) (f : Found) (Fact : List PlainCell → List ℕ → Type 0) (cells : List PlainCell) (text : List ℕ) → (IsTrue f.tells → AreCells library f.holds cells) → (IsTrue f.tells → f.holds net ≡ Some text) → Fact cells text → ToldBoth library net f Fact
@@ -347,6 +431,8 @@ pub order_fits : (words : List (List ℕ)) (r : Request) → Asks words r → Ha
 order_fits words (mask m) is = is.order_fits
 order_fits words (sim s) is = tt
 order_fits words (reporting r) is = tt
+order_fits words (auditing a) is = is.order_fits
+order_fits words (probing p) is = is.order_fits
 
 pub runs_once : ((cells : List PlainCell) (bytes : List ℕ) (m n : PlainNet) → IsClocked cells bytes m → IsClocked cells bytes n → m ≡ n)
     → ((cells : List PlainCell) (bytes : List ℕ) (net : PlainNet) (refusal : Refusal) → IsClocked cells bytes net → IsUnclocked cells bytes refusal → Prim.⊥)
@@ -373,3 +459,61 @@ line_end r f before now can Done d = can
 line_end r f before now can PrintFault d = (can, d)
 line_end r f before now can Memory d = tt
 line_end r f before now can _ d = absurd d
+
+-- where the reading of OUT ends `audit`
+pub unread_audit : (a : Auditing) (f : Found) (before now : Counts) (ended : Ended) → IsReadEnd a.out f.tells f.sound (f.holds a.out) before.reads now.reads ended → IsAuditEnd a f before now ended
+unread_audit a f before now (ReadFault file) h = h
+unread_audit a f before now Memory h = tt
+unread_audit a f before now (Refused (TooLong file)) h = h
+unread_audit a f before now _ h = absurd h
+
+-- a text that gives no network ends `audit`
+pub refused_audit : (a : Auditing) (f : Found) (before now : Counts) (text : List ℕ) → (IsTrue f.tells → f.holds a.out ≡ Some text) → (ended : Ended) → EndsBy (IsUnaudited text a.order) ended → IsAuditEnd a f before now ended
+refused_audit a f before now text is Memory h = tt
+refused_audit a f before now text is (Refused (TooLong file)) (short, design, spelled, fault, fails, told) = absurd (of_binding fault (TooLong file) told)
+refused_audit a f before now text is (Refused refusal) h = λ t. (text, is t, h)
+refused_audit a f before now text is _ h = absurd h
+
+-- where the printing ends `audit`
+pub audit_end : (a : Auditing) (f : Found) (before now : Counts) → AuditFits a f → (ended : Ended) → IsPrintEnd f.prints before.prints now.prints ended → IsAuditEnd a f before now ended
+audit_end a f before now can Done d = can
+audit_end a f before now can PrintFault d = (can, d)
+audit_end a f before now can Memory d = tt
+audit_end a f before now can _ d = absurd d
+
+-- where the reading of OUT ends `cones`
+pub unread_out : (p : Probing) (f : Found) (before now : Counts) (ended : Ended) → IsReadEnd p.out f.tells f.sound (f.holds p.out) before.reads now.reads ended → IsConesEnd p f before now ended
+unread_out p f before now (ReadFault file) h = inl h
+unread_out p f before now Memory h = tt
+unread_out p f before now (Refused (TooLong file)) h = inl h
+unread_out p f before now _ h = absurd h
+
+-- a text that gives no network ends `cones`
+pub refused_out : (p : Probing) (f : Found) (before now : Counts) (text : List ℕ) → (IsTrue f.tells → f.holds p.out ≡ Some text) → (ended : Ended) → EndsBy (IsUnaudited text p.order) ended → IsConesEnd p f before now ended
+refused_out p f before now text is Memory h = tt
+refused_out p f before now text is (Refused (TooLong file)) (short, design, spelled, fault, fails, told) = absurd (of_binding fault (TooLong file) told)
+refused_out p f before now text is (Refused (BadProbe cause index)) (short, design, spelled, fault, fails, told) = absurd (of_binding fault (BadProbe cause index) told)
+refused_out p f before now text is (Refused refusal) h = λ t. (text, is t, h)
+refused_out p f before now text is _ h = absurd h
+
+-- where the reading of the probes ends `cones`
+pub unread_probes : (p : Probing) (f : Found) (before now : Counts) (mid : ℕ) → before.reads ≤ mid → OutFits p f → (ended : Ended) → IsReadEnd p.probes f.tells f.sound (f.holds p.probes) mid now.reads ended → IsConesEnd p f before now ended
+unread_probes p f before now mid le fits (ReadFault file) (named, (rose, none)) = inr (fits, named, (omega arith, none))
+unread_probes p f before now mid le fits Memory h = tt
+unread_probes p f before now mid le fits (Refused (TooLong file)) (named, long) = inr (fits, named, long)
+unread_probes p f before now mid le fits _ h = absurd h
+
+-- a refusal of the probes ends `cones`
+pub refused_probes : (p : Probing) (f : Found) (before now : Counts) (text probes : List ℕ) (net : PlainNet) → (IsTrue f.tells → f.holds p.out ≡ Some text) → (IsTrue f.tells → f.holds p.probes ≡ Some probes)
+    → IsNetwork text p.order net → (ended : Ended) → EndsBy (IsBadList net p.order probes) ended → IsConesEnd p f before now ended
+refused_probes p f before now text probes net is asks network Memory h = tt
+refused_probes p f before now text probes net is asks network (Refused (BadProbe cause index)) h = λ t. (text, is t, (probes, asks t, (net, network, h)))
+refused_probes p f before now text probes net is asks network (Refused _) h = absurd h
+refused_probes p f before now text probes net is asks network _ h = absurd h
+
+-- where the printing ends `cones`
+pub cones_end : (p : Probing) (f : Found) (before now : Counts) → ConesFit p f → (ended : Ended) → IsPrintEnd f.prints before.prints now.prints ended → IsConesEnd p f before now ended
+cones_end p f before now fits Done d = fits
+cones_end p f before now fits PrintFault d = (fits, d)
+cones_end p f before now fits Memory d = tt
+cones_end p f before now fits _ d = absurd d

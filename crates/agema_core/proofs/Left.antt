@@ -3,13 +3,15 @@ use Rattle.std.proofs.Common.{◌≡◌, ◌≢◌, ◌++◌, ℕ, List, [], ◌
 use Rattle.agm_shelf.specs.Shelf.{Contents, AllStay, IsFrontOrOld, TakesFront}
 use Rattle.cell_library.specs.Judged.{PlainCell}
 use Rattle.agema_texts.specs.Masks.{Masks}
+use Rattle.agema_texts.specs.Auditing.{Audits}
+use Rattle.agema_texts.specs.Probing.{Cones}
 use Rattle.agema_texts.specs.Reported.{Reports}
 use Rattle.agema_texts.specs.Sims.{Sims}
 use Rattle.agema_answers.specs.declared.ended.Ended.{Ended}
-use Rattle.agema_core.specs.Words.{Mask, Sim, Reporting}
+use Rattle.agema_core.specs.Words.{Mask, Sim, Reporting, Auditing, Probing}
 use Rattle.agema_core.specs.Found.{IsPrintEnd, AreCells, HoldsBoth, Holds}
 use Rattle.agema_core.specs.Answer.{report_name}
-use Rattle.agema_core.specs.Left.{IsDelivery, LeftWhole, LeftPart, Leaves, LeavesMasked, LeftByMask, LeftBySim, LeftByReport}
+use Rattle.agema_core.specs.Left.{IsDelivery, LeftWhole, LeftPart, Leaves, LeavesMasked, LeftByMask, LeftBySim, LeftByReport, LeftByAudit, LeftByCones}
 use Rattle.agema_answers.specs.declared.ended.Ended.TheVariants.{Done, Usage, ReadFault, WriteFault, PrintFault, Memory, Refused}
 
 -- the report's name is another than OUT's
@@ -121,6 +123,32 @@ line_left r text told old new heard before now sound f0 f1 Usage end reports sta
 line_left r text told old new heard before now sound f0 f1 (ReadFault file) end reports stay done front = absurd end
 line_left r text told old new heard before now sound f0 f1 (WriteFault file) end reports stay done front = absurd end
 line_left r text told old new heard before now sound f0 f1 (Refused refusal) end reports stay done front = absurd end
+
+-- what the printing of an audit's line leaves
+pub audit_left : (a : Auditing) (text : List ℕ) (told : Bool) (old new : Contents) (heard : Bool) (before now : List ℕ) (sound : Bool) (f0 f1 : ℕ) (ended : Ended) → IsPrintEnd sound f0 f1 ended
+    → (IsTrue told → Holds (old a.out) (λ file. Audits file a.order text)) → AllStay old new
+    → (ended ≡ Done → IsTrue heard → now ≡ before ++ text) → (ended ≢ Done → IsTrue heard → TakesFront text before now)
+    → LeftByAudit a told old new heard before now ended
+audit_left a text told old new heard before now sound f0 f1 Done end audits stay done front = record { printed = text; audits = audits; prints = done refl; held = stay }
+audit_left a text told old new heard before now sound f0 f1 PrintFault end audits stay done front = record { printed = text; audits = audits; prints = front (λ e. cc); held = stay }
+audit_left a text told old new heard before now sound f0 f1 Memory end audits stay done front = inr (record { printed = text; audits = audits; prints = front (λ e. cc); held = stay })
+audit_left a text told old new heard before now sound f0 f1 Usage end audits stay done front = absurd end
+audit_left a text told old new heard before now sound f0 f1 (ReadFault file) end audits stay done front = absurd end
+audit_left a text told old new heard before now sound f0 f1 (WriteFault file) end audits stay done front = absurd end
+audit_left a text told old new heard before now sound f0 f1 (Refused refusal) end audits stay done front = absurd end
+
+-- what the printing of the text of probes leaves
+pub cones_left : (p : Probing) (text : List ℕ) (told : Bool) (old new : Contents) (heard : Bool) (before now : List ℕ) (sound : Bool) (f0 f1 : ℕ) (ended : Ended) → IsPrintEnd sound f0 f1 ended
+    → (IsTrue told → Holds (old p.out) (λ file. Holds (old p.probes) (λ probes. Cones file p.order probes text))) → AllStay old new
+    → (ended ≡ Done → IsTrue heard → now ≡ before ++ text) → (ended ≢ Done → IsTrue heard → TakesFront text before now)
+    → LeftByCones p told old new heard before now ended
+cones_left p text told old new heard before now sound f0 f1 Done end cones stay done front = record { printed = text; cones = cones; prints = done refl; held = stay }
+cones_left p text told old new heard before now sound f0 f1 PrintFault end cones stay done front = record { printed = text; cones = cones; prints = front (λ e. cc); held = stay }
+cones_left p text told old new heard before now sound f0 f1 Memory end cones stay done front = inr (record { printed = text; cones = cones; prints = front (λ e. cc); held = stay })
+cones_left p text told old new heard before now sound f0 f1 Usage end cones stay done front = absurd end
+cones_left p text told old new heard before now sound f0 f1 (ReadFault file) end cones stay done front = absurd end
+cones_left p text told old new heard before now sound f0 f1 (WriteFault file) end cones stay done front = absurd end
+cones_left p text told old new heard before now sound f0 f1 (Refused refusal) end cones stay done front = absurd end
 
 -- what follows where a result is an error
 pub on_err_map : {T E P Q : Type 0} (r : Result T E) → OnErr r P → (P → Q) → OnErr r Q

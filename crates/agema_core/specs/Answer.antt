@@ -6,12 +6,14 @@ use Rattle.cell_library.specs.Judged.{PlainCell}
 use Rattle.share_wiring.specs.declared.report.Mode.TheVariants.{Naive}
 use Rattle.share_wiring.specs.declared.report.Balance.TheVariants.{Pipe}
 use Rattle.agema_texts.specs.Masks.{CanMask, IsWithin, IsUnmasked}
+use Rattle.agema_texts.specs.Auditing.{CanAudit, IsUnaudited}
+use Rattle.agema_texts.specs.Probing.{CanProbe, IsUnprobed}
 use Rattle.agema_texts.specs.Reported.{CanReport, IsBadReport}
 use Rattle.agema_texts.specs.Sims.{CanSim, IsClocked, IsUnclocked, IsUndriven}
 use Rattle.agema_answers.specs.declared.ended.Ended.{Ended}
 use Rattle.agema_answers.specs.declared.ended.Ended.TheVariants.{Done, Usage, ReadFault, WriteFault, PrintFault, Memory, Refused}
-use Rattle.agema_answers.specs.declared.refusal.Refusal.TheVariants.{TooLong, BadReport, BadStimulus, NotBuilt}
-use Rattle.agema_core.specs.Words.{Mask, Sim, Reporting, Request, mask, sim, reporting}
+use Rattle.agema_answers.specs.declared.refusal.Refusal.TheVariants.{TooLong, BadReport, BadStimulus, BadProbe, NotBuilt}
+use Rattle.agema_core.specs.Words.{Mask, Sim, Reporting, Auditing, Probing, Request, mask, sim, reporting, auditing, probing}
 use Rattle.agema_core.specs.Found.{Counts, Found, Holds, Told, Fails, ReadFails, IsTooLong, IsDash, HoldsBoth, ToldBoth, HasCells, IsLibraryEnd}
 
 -- the file of the report stands beside OUT
@@ -76,18 +78,62 @@ IsReportEnd r f before now Memory = Unit {0}
 IsReportEnd r f before now (Refused (TooLong file)) = (file ≡ report_name r.out) × Told f.tells (f.holds (report_name r.out)) IsTooLong
 IsReportEnd r f before now (Refused refusal) = Told f.tells (f.holds (report_name r.out)) (λ text. IsBadReport text refusal)
 
+-- OUT gives an HPC2 network of the order
+abbrev pub AuditFits : Auditing → Found → Type 0
+AuditFits a f = Told f.tells (f.holds a.out) (λ text. CanAudit text a.order)
+
+-- How `audit` may end: at OUT, or at the printing.
+abbrev pub IsAuditEnd : Auditing → Found → (before now : Counts) → Ended → Type 0
+IsAuditEnd a f before now Done = AuditFits a f
+IsAuditEnd a f before now Usage = Prim.⊥
+IsAuditEnd a f before now (ReadFault file) = (file ≡ a.out) × ReadFails f.sound (f.holds a.out) before.reads now.reads
+IsAuditEnd a f before now (WriteFault file) = Prim.⊥
+IsAuditEnd a f before now PrintFault = AuditFits a f × Fails f.prints before.prints now.prints
+IsAuditEnd a f before now Memory = Unit {0}
+IsAuditEnd a f before now (Refused (TooLong file)) = (file ≡ a.out) × Told f.tells (f.holds a.out) IsTooLong
+IsAuditEnd a f before now (Refused refusal) = Told f.tells (f.holds a.out) (λ text. IsUnaudited text a.order refusal)
+
+-- the probes can be told of a network
+abbrev pub ProbesFit : Probing → Found → List ℕ → Type 0
+ProbesFit p f text = Holds (f.holds p.probes) (CanProbe text p.order)
+
+-- OUT gives an HPC2 network of the order
+abbrev pub OutFits : Probing → Found → Type 0
+OutFits p f = Told f.tells (f.holds p.out) (λ text. CanAudit text p.order)
+
+abbrev pub ConesFit : Probing → Found → Type 0
+ConesFit p f = Told f.tells (f.holds p.out) (ProbesFit p f)
+
+-- How `cones` may end: at OUT, or behind it at the probes, or at the printing.
+abbrev pub IsConesEnd : Probing → Found → (before now : Counts) → Ended → Type 0
+IsConesEnd p f before now Done = ConesFit p f
+IsConesEnd p f before now Usage = Prim.⊥
+IsConesEnd p f before now (ReadFault file) =
+    ((file ≡ p.out) × ReadFails f.sound (f.holds p.out) before.reads now.reads)
+    ⊎ (OutFits p f × (file ≡ p.probes) × ReadFails f.sound (f.holds p.probes) before.reads now.reads)
+IsConesEnd p f before now (WriteFault file) = Prim.⊥
+IsConesEnd p f before now PrintFault = ConesFit p f × Fails f.prints before.prints now.prints
+IsConesEnd p f before now Memory = Unit {0}
+IsConesEnd p f before now (Refused (TooLong file)) =
+    ((file ≡ p.out) × Told f.tells (f.holds p.out) IsTooLong) ⊎ (OutFits p f × (file ≡ p.probes) × Told f.tells (f.holds p.probes) IsTooLong)
+IsConesEnd p f before now (Refused (BadProbe cause index)) =
+    Told f.tells (f.holds p.out) (λ text. Holds (f.holds p.probes) (λ probes. IsUnprobed text p.order probes (BadProbe cause index)))
+IsConesEnd p f before now (Refused refusal) = Told f.tells (f.holds p.out) (λ text. IsUnaudited text p.order refusal)
+
 -- at a library that is named, or behind it
 abbrev pub AtLibraryOr : (library : List ℕ) → Found → (before now : Counts) → Ended → Type 0 → Type 0
 AtLibraryOr library f before now ended Later =
     ((IsDash library → Prim.⊥) × IsLibraryEnd library f.tells f.sound (f.holds library) before.reads now.reads ended) ⊎ (HasCells library f × Later)
 
 -- When each answer may come, for what was asked and what was found. `mask` may end at its words, at the library or behind it, `sim` at the
--- library or behind it, `report` at its file or the printing. Each refusal at a file yields to a read fault and to want of memory.
+-- library or behind it, `report` and `audit` at their file or the printing. Each refusal at a file yields to a read fault and to want of memory.
 abbrev pub HasCause : Request → Found → (before now : Counts) → Ended → Type 0
 HasCause (mask m) f before now ended =
     ((IsBuilt m → Prim.⊥) × (ended ≡ Refused NotBuilt)) ⊎ (IsBuilt m × AtLibraryOr m.library f before now ended (IsMaskEnd m f before now ended))
 HasCause (sim s) f before now ended = AtLibraryOr s.library f before now ended (IsSimEnd s f before now ended)
 HasCause (reporting r) f before now ended = IsReportEnd r f before now ended
+HasCause (auditing a) f before now ended = IsAuditEnd a f before now ended
+HasCause (probing p) f before now ended = IsConesEnd p f before now ended
 
 -- no count of faults rose
 pub record NoneRose (before now : Counts) : Type 0 where
@@ -104,6 +150,8 @@ abbrev pub CanServe : Request → Found → Type 0
 CanServe (mask m) f = IsBuilt m × HoldsBoth m.library m.net f.holds (MaskFits m)
 CanServe (sim s) f = HoldsBoth s.library s.net f.holds (SimFits s f)
 CanServe (reporting r) f = Holds (f.holds (report_name r.out)) CanReport
+CanServe (auditing a) f = Holds (f.holds a.out) (λ text. CanAudit text a.order)
+CanServe (probing p) f = Holds (f.holds p.out) (ProbesFit p f)
 
 -- Completeness: where the shelf holds what the request wants and nothing fails, the command is done, or memory is wanted.
 abbrev pub IsComplete : Request → Found → (before now : Counts) → Ended → Type 0

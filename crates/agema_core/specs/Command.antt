@@ -5,10 +5,12 @@ use Rattle.share_wiring.specs.declared.report.Mode.{Mode}
 use Rattle.share_wiring.specs.declared.report.Mode.TheVariants.{Naive, Aig, Bdd}
 use Rattle.share_wiring.specs.declared.report.Balance.{Balance}
 use Rattle.share_wiring.specs.declared.report.Balance.TheVariants.{Pipe, Gate}
-use Rattle.agema_core.specs.Words.{Mask, Sim, Reporting, Request, mask, sim, reporting}
+use Rattle.agema_core.specs.Words.{Mask, Sim, Reporting, Auditing, Probing, Request, mask, sim, reporting, auditing, probing}
 use Rattle.agema_core.specs.declared.words.MaskWords.{MaskWords}
 use Rattle.agema_core.specs.declared.words.SimWords.{SimWords}
 use Rattle.agema_core.specs.declared.words.ReportWords.{ReportWords}
+use Rattle.agema_core.specs.declared.words.AuditWords.{AuditWords}
+use Rattle.agema_core.specs.declared.words.ConesWords.{ConesWords}
 use Rattle.agema_core.specs.declared.words.Command.{Command}
 use Rattle.agema_core.specs.declared.words.Command.TheVariants as command
 
@@ -21,10 +23,18 @@ sim_of c = record { library = c.library.now; net = c.net.now; stimulus = c.stimu
 abbrev pub reporting_of : ReportWords → Reporting
 reporting_of c = record { out = c.out.now }
 
+abbrev pub auditing_of : AuditWords → Auditing
+auditing_of c = record { out = c.out.now; order = c.order }
+
+abbrev pub probing_of : ConesWords → Probing
+probing_of c = record { out = c.out.now; order = c.order; probes = c.probes.now }
+
 abbrev pub request_of : Command → Request
 request_of (command.Mask m) = mask (mask_of m)
 request_of (command.Sim s) = sim (sim_of s)
 request_of (command.Report r) = reporting (reporting_of r)
+request_of (command.Audit a) = auditing (auditing_of a)
+request_of (command.Cones c) = probing (probing_of c)
 
 infixl 10 ◌>>=◌
 abbrev pub ◌>>=◌ : {A B : Type 0} → Option A → (A → Option B) → Option B
@@ -60,11 +70,32 @@ abbrev pub mask_request : Option Mask → Option Request
 mask_request None = None
 mask_request (Some m) = Some (mask m)
 
+-- an audit of a file, if an order is spelled
+abbrev pub audit_by : (out : List ℕ) → Option ℕ → Option Request
+audit_by out None = None
+audit_by out (Some d) = Some (auditing (record { out = out; order = d }))
+
+abbrev pub audit_request : (command out order : List ℕ) → Option Request
+audit_request command out order = cond (bytes_eq command (codes "audit") && is_filled out) (audit_by out (order_of order)) None
+
+-- the cones of a file's probes, if an order is spelled
+abbrev pub cones_by : (out probes : List ℕ) → Option ℕ → Option Request
+cones_by out probes None = None
+cones_by out probes (Some d) = Some (probing (record { out = out; order = d; probes = probes }))
+
+abbrev pub cones_request : (out order probes : List ℕ) → Option Request
+cones_request out order probes = cond (is_filled out && is_filled probes) (cones_by out probes (order_of order)) None
+
+abbrev pub sim_request : (command library net stimulus : List ℕ) → Option Request
+sim_request command library net stimulus =
+    cond (are_names (codes "sim") command library net stimulus) (Some (sim (record { library = library; net = net; stimulus = stimulus }))) None
+
 -- what the words say
 abbrev pub command_of : List (List ℕ) → Option Request
 command_of (command ∷ library ∷ net ∷ order ∷ mode ∷ balance ∷ out ∷ []) =
     cond (are_names (codes "mask") command library net out) (mask_request (parts_of library net order mode balance out)) None
-command_of (command ∷ library ∷ net ∷ stimulus ∷ []) =
-    cond (are_names (codes "sim") command library net stimulus) (Some (sim (record { library = library; net = net; stimulus = stimulus }))) None
+command_of (command ∷ first ∷ second ∷ third ∷ []) =
+    cond (bytes_eq command (codes "cones")) (cones_request first second third) (sim_request command first second third)
+command_of (command ∷ out ∷ order ∷ []) = audit_request command out order
 command_of (command ∷ out ∷ []) = cond (bytes_eq command (codes "report") && is_filled out) (Some (reporting (record { out = out }))) None
 command_of _ = None

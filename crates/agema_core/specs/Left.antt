@@ -2,11 +2,13 @@
 use Rattle.std.specs.Prelude.{◌≡◌, ◌≢◌, ◌⊎◌, ◌++◌, ℕ, List, Bool, IsTrue, Some}
 use Rattle.agm_shelf.specs.Shelf.{Contents, AllStay, IsFrontOrOld, TakesFront}
 use Rattle.agema_texts.specs.Masks.{Masks}
+use Rattle.agema_texts.specs.Auditing.{Audits}
+use Rattle.agema_texts.specs.Probing.{Cones}
 use Rattle.agema_texts.specs.Reported.{Reports}
 use Rattle.agema_texts.specs.Sims.{Sims}
 use Rattle.agema_answers.specs.declared.ended.Ended.{Ended}
 use Rattle.agema_answers.specs.declared.ended.Ended.TheVariants.{Done, Usage, ReadFault, WriteFault, PrintFault, Memory, Refused}
-use Rattle.agema_core.specs.Words.{Mask, Sim, Reporting, Request, mask, sim, reporting}
+use Rattle.agema_core.specs.Words.{Mask, Sim, Reporting, Auditing, Probing, Request, mask, sim, reporting, auditing, probing}
 use Rattle.agema_core.specs.Found.{Fails, HoldsBoth, Holds}
 use Rattle.agema_core.specs.Answer.{report_name}
 
@@ -118,16 +120,54 @@ LeftByReport r told old new heard before now Done = LeavesLine r told old new he
 LeftByReport r told old new heard before now PrintFault = LeavesLine r told old new heard before now PrintFault
 LeftByReport r told old new heard before now (WriteFault file) = Prim.⊥
 
+-- what is printed of the line of an audit; no name's text has changed
+pub record LeavesAudit (a : Auditing) (told : Bool) (old new : Contents) (heard : Bool) (before now : List ℕ) (ended : Ended) : Type 0 where
+  pub printed : List ℕ
+  pub audits : IsTrue told → Holds (old a.out) (λ text. Audits text a.order printed)
+  pub prints : Prints printed heard before now ended
+  pub held : AllStay old new
+
+-- What `audit` leaves after each answer: all as it was, or the line of the network or a first part of it.
+abbrev pub LeftByAudit : Auditing → Bool → Contents → Contents → Bool → (before now : List ℕ) → Ended → Type 0
+LeftByAudit a told old new heard before now Usage = LeavesAll old new before now
+LeftByAudit a told old new heard before now (ReadFault file) = LeavesAll old new before now
+LeftByAudit a told old new heard before now (Refused refusal) = LeavesAll old new before now
+LeftByAudit a told old new heard before now Memory = LeavesAll old new before now ⊎ LeavesAudit a told old new heard before now Memory
+LeftByAudit a told old new heard before now Done = LeavesAudit a told old new heard before now Done
+LeftByAudit a told old new heard before now PrintFault = LeavesAudit a told old new heard before now PrintFault
+LeftByAudit a told old new heard before now (WriteFault file) = Prim.⊥
+
+-- what is printed of the text of some probes; no name's text has changed
+pub record LeavesCones (p : Probing) (told : Bool) (old new : Contents) (heard : Bool) (before now : List ℕ) (ended : Ended) : Type 0 where
+  pub printed : List ℕ
+  pub cones : IsTrue told → Holds (old p.out) (λ text. Holds (old p.probes) (λ probes. Cones text p.order probes printed))
+  pub prints : Prints printed heard before now ended
+  pub held : AllStay old new
+
+-- What `cones` leaves after each answer: all as it was, or the text of the probes or a first part of it.
+abbrev pub LeftByCones : Probing → Bool → Contents → Contents → Bool → (before now : List ℕ) → Ended → Type 0
+LeftByCones p told old new heard before now Usage = LeavesAll old new before now
+LeftByCones p told old new heard before now (ReadFault file) = LeavesAll old new before now
+LeftByCones p told old new heard before now (Refused refusal) = LeavesAll old new before now
+LeftByCones p told old new heard before now Memory = LeavesAll old new before now ⊎ LeavesCones p told old new heard before now Memory
+LeftByCones p told old new heard before now Done = LeavesCones p told old new heard before now Done
+LeftByCones p told old new heard before now PrintFault = LeavesCones p told old new heard before now PrintFault
+LeftByCones p told old new heard before now (WriteFault file) = Prim.⊥
+
 abbrev pub HasLeft : Request → Bool → Contents → Contents → Bool → (before now : List ℕ) → Ended → Type 0
 HasLeft (mask m) told old new heard before now ended = LeftByMask m told old new heard before now ended
 HasLeft (sim s) told old new heard before now ended = LeftBySim s told old new heard before now ended
 HasLeft (reporting r) told old new heard before now ended = LeftByReport r told old new heard before now ended
+HasLeft (auditing a) told old new heard before now ended = LeftByAudit a told old new heard before now ended
+HasLeft (probing p) told old new heard before now ended = LeftByCones p told old new heard before now ended
 
 -- names that are no outputs of the command hold what they held
 abbrev pub OthersStay : Request → Contents → Contents → Type 0
 OthersStay (mask m) old new = OthersKeep m.out old new
 OthersStay (sim s) old new = AllStay old new
 OthersStay (reporting r) old new = AllStay old new
+OthersStay (auditing a) old new = AllStay old new
+OthersStay (probing p) old new = AllStay old new
 
 -- answers of steps that write nothing
 abbrev pub IsUntouched : Ended → Type 0

@@ -24,6 +24,11 @@ pub record Sim : Type 0 where
 pub record Reporting : Type 0 where
   pub out : List ℕ
 
+-- what the words of an `audit` command say
+pub record Auditing : Type 0 where
+  pub out : List ℕ
+  pub order : ℕ
+
 -- an order that can be asked for
 abbrev pub IsOrder : ℕ → Type 0
 IsOrder d = (1 ≤ d) × (d ≤ 7)
@@ -48,20 +53,45 @@ pub record IsReporting (words : List (List ℕ)) (r : Reporting) : Type 0 where
   pub words_are : words ≡ codes "report" ∷ r.out ∷ []
   pub has_out : 0 < length r.out
 
+-- the words are `audit OUT D`, with D from 1 to 7, and none is empty
+pub record IsAuditing (words : List (List ℕ)) (a : Auditing) : Type 0 where
+  pub words_are : words ≡ codes "audit" ∷ a.out ∷ decimal a.order ∷ []
+  pub order_fits : IsOrder a.order
+  pub has_out : 0 < length a.out
+
+-- what the words of a `cones` command say
+pub record Probing : Type 0 where
+  pub out : List ℕ
+  pub order : ℕ
+  pub probes : List ℕ
+
+-- the words are `cones OUT D PROBES`, with D from 1 to 7, and none is empty
+pub record IsProbing (words : List (List ℕ)) (p : Probing) : Type 0 where
+  pub words_are : words ≡ codes "cones" ∷ p.out ∷ decimal p.order ∷ p.probes ∷ []
+  pub order_fits : IsOrder p.order
+  pub has_out : 0 < length p.out
+  pub has_probes : 0 < length p.probes
+
 -- what a command asks for
 pub data Request : Type 0 where
   mask : Mask → Request
   sim : Sim → Request
   reporting : Reporting → Request
+  auditing : Auditing → Request
+  probing : Probing → Request
 
 -- the words are a command that asks for this
 abbrev pub Asks : List (List ℕ) → Request → Type 0
 Asks words (mask m) = IsMask words m
 Asks words (sim s) = IsSim words s
 Asks words (reporting r) = IsReporting words r
+Asks words (auditing a) = IsAuditing words a
+Asks words (probing p) = IsProbing words p
 
 -- an order that is asked for is one that can be
 abbrev pub HasOrder : Request → Type 0
 HasOrder (mask m) = IsOrder m.order
 HasOrder (sim s) = Unit {0}
 HasOrder (reporting r) = Unit {0}
+HasOrder (auditing a) = IsOrder a.order
+HasOrder (probing p) = IsOrder p.order

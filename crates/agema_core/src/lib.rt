@@ -1,6 +1,8 @@
 //! The commands of `agema`.
 #![tactic(auto)]
 
+mod audit;
+mod cones;
 mod files;
 mod inputs;
 mod mask;

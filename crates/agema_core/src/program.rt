@@ -5,12 +5,14 @@ ghost use Rattle.agema_core.specs.Found.{NoReadFailed, counts, found};
 ghost use Rattle.agema_core.specs.Answer.{HasCause, IsComplete};
 ghost use Rattle.agema_core.specs.Left.{HasLeft, LeavesAll, OthersStay};
 
+use crate::audit::run_audit;
+use crate::cones::run_cones;
 use crate::mask::run_mask;
 use crate::report::run_report;
 use crate::sim::run_sim;
 use crate::words::{Command, read_command};
 use agema_answers::Ended;
-use agema_texts::{one_original, one_reading, one_simulation};
+use agema_texts::{one_audit, one_original, one_probing, one_reading, one_simulation};
 use agm_shelf::{Shelf, Sink};
 use cell_library::one_library;
 use std::alloc::Global;
@@ -34,6 +36,8 @@ fn run_command<H: Shelf, K: Sink>(
         Command::Mask(words) => run_mask(alloc, words, shelf, out),
         Command::Sim(words) => run_sim(alloc, words, shelf, out),
         Command::Report(words) => run_report(alloc, words, shelf, out),
+        Command::Audit(words) => run_audit(alloc, words, shelf, out),
+        Command::Cones(words) => run_cones(alloc, words, shelf, out),
     }
 }
 
@@ -53,6 +57,8 @@ pub fn run<H: Shelf, K: Sink>(alloc: Global, words: &[String], shelf: &mut H, ou
     one_original();
     one_simulation();
     one_reading();
+    one_audit();
+    one_probing();
     one_library();
     match read_command(words) {
         None => Ended::Usage,

@@ -29,12 +29,29 @@ pub(crate) struct ReportWords<'a> {
     pub out: &'a str,
 }
 
+/// The words of an `audit` command.
+#[derive(Clone, Copy)]
+pub(crate) struct AuditWords<'a> {
+    pub out: &'a str,
+    pub order: u32,
+}
+
+/// The words of a `cones` command.
+#[derive(Clone, Copy)]
+pub(crate) struct ConesWords<'a> {
+    pub out: &'a str,
+    pub order: u32,
+    pub probes: &'a str,
+}
+
 /// A command.
 #[derive(Clone, Copy)]
 pub(crate) enum Command<'a> {
     Mask(MaskWords<'a>),
     Sim(SimWords<'a>),
     Report(ReportWords<'a>),
+    Audit(AuditWords<'a>),
+    Cones(ConesWords<'a>),
 }
 
 // The order that a word spells, from 1 to 7.
@@ -119,6 +136,51 @@ fn read_mask<'a>(
     }
 }
 
+// The `audit` command of three words.
+fn read_audit<'a>(command: &str, out: &'a str, order: &str) -> Option<Command<'a>>
+    ensures { option_map spec.request_of result ≡ spec.audit_request command.now out.now order.now }
+{
+    if command != "audit" || out.is_empty() {
+        return None;
+    }
+    match read_order(order) {
+        Some(order) => Some(Command::Audit(AuditWords { out, order })),
+        None => None,
+    }
+}
+
+// The `cones` command of the words behind the first one.
+fn read_cones<'a>(out: &'a str, order: &str, probes: &'a str) -> Option<Command<'a>>
+    ensures { option_map spec.request_of result ≡ spec.cones_request out.now order.now probes.now }
+{
+    if out.is_empty() || probes.is_empty() {
+        return None;
+    }
+    match read_order(order) {
+        Some(order) => Some(Command::Cones(ConesWords { out, order, probes })),
+        None => None,
+    }
+}
+
+// The `sim` command of four words.
+fn read_sim<'a>(
+    command: &str,
+    library: &'a str,
+    net: &'a str,
+    stimulus: &'a str,
+) -> Option<Command<'a>>
+    ensures { option_map spec.request_of result ≡ spec.sim_request command.now library.now net.now stimulus.now }
+{
+    if !are_names("sim", command, library, net, stimulus) {
+        return None;
+    }
+    Some(Command::Sim(SimWords {
+        library,
+        net,
+        stimulus,
+    }))
+}
+
 /// The command that the words are, None where they are none.
 pub(crate) fn read_command(words: &[String]) -> Option<Command<'_>>
     ensures { option_map spec.request_of result ≡ spec.command_of (map string_bytes words.now) }
@@ -140,19 +202,15 @@ pub(crate) fn read_command(words: &[String]) -> Option<Command<'_>>
                 out,
             )
         }
-        [command, library, net, stimulus] => {
-            let library = library.as_str();
-            let net = net.as_str();
-            let stimulus = stimulus.as_str();
-            if !are_names("sim", command.as_str(), library, net, stimulus) {
-                return None;
+        [command, first, second, third] => {
+            let first = first.as_str();
+            let third = third.as_str();
+            if command.as_str() == "cones" {
+                return read_cones(first, second.as_str(), third);
             }
-            Some(Command::Sim(SimWords {
-                library,
-                net,
-                stimulus,
-            }))
+            read_sim(command.as_str(), first, second.as_str(), third)
         }
+        [command, out, order] => read_audit(command.as_str(), out.as_str(), order.as_str()),
         [command, out] => {
             let out = out.as_str();
             if command.as_str() == "report" && !out.is_empty() {

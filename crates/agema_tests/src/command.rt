@@ -82,6 +82,53 @@ fn fail(shelf: &mut MemoryShelf, sink: &mut MemorySink, faults: Faults) -> Resul
     Ok(())
 }
 
+// The word of a line at a place, "" behind its end.
+fn word_at(line: &str, place: usize) -> &str {
+    line.split_whitespace().nth(place).unwrap_or("")
+}
+
+// Whether a netlist that was masked by the words of a line is audited, with the gadgets and random bits of the printed line.
+fn is_audited(
+    alloc: Global,
+    line: &str,
+    printed: &str,
+    shelf: &mut MemoryShelf,
+) -> Result<bool, Fail>
+    requires { open_name shelf.old ≡ None }
+{
+    let order = word_at(line, 3);
+    let out = word_at(line, 6);
+    let gadgets = word_at(printed, 7);
+    let random = word_at(printed, 9);
+    let wanted = format!(in alloc; "hpc2 order {order} gadgets {gadgets} random {random}\n")?;
+    let words = words_of(alloc, format!(in alloc; "audit {out} {order}")?.as_str())?;
+    let mut sink = MemorySink::new(alloc);
+    let ended = run(alloc, words.as_slice(), shelf, &mut sink);
+    Ok(matches!(ended, Ended::Done) && sink.taken() == wanted.as_bytes())
+}
+
+// Audits a netlist that was masked over a shelf whose calls don't fail; fails where that finds no network, or other numbers than were
+// printed.
+fn audit_masked(
+    alloc: Global,
+    line: &str,
+    found: &Outcome,
+    faults: Faults,
+    shelf: &mut MemoryShelf,
+) -> Result<(), Fail>
+    requires { open_name shelf.old ≡ None }
+{
+    let is_masked = word_at(line, 0) == "mask" && found.end.as_str() == "status 0 Done\n";
+    if faults.shelf.is_some()
+        || !is_masked
+        || is_audited(alloc, line, found.line.as_str(), shelf)?
+    {
+        Ok(())
+    } else {
+        Err(Fail::from("a masked netlist is no network"))
+    }
+}
+
 /// Runs the command of a line over a shelf and a sink, and answers what it left in the files OUT and its report.
 pub(crate) fn left_by(
     alloc: Global,
@@ -91,6 +138,7 @@ pub(crate) fn left_by(
     sink: &mut MemorySink,
 ) -> Result<Outcome, Fail>
     requires { open_name shelf.old ≡ None }
+    ensures { open_name shelf.new ≡ None }
 {
     let words = words_of(alloc, line)?;
     let ended = run(alloc, words.as_slice(), shelf, sink);
@@ -112,7 +160,7 @@ pub(crate) fn run_over(
     run_with(alloc, "", netlist, line, faults)
 }
 
-/// The same where the shelf holds a library as `l.lib` too.
+/// The same where the shelf holds a library as `l.lib` too. A netlist that is masked is audited as well.
 pub(crate) fn run_with(
     alloc: Global,
     library: &str,
@@ -127,7 +175,9 @@ pub(crate) fn run_with(
     hold(&mut shelf, "o.v", "old net")?;
     hold(&mut shelf, "o.v.json", "old report")?;
     fail(&mut shelf, &mut sink, faults)?;
-    left_by(alloc, line, ("o.v", "o.v.json"), &mut shelf, &mut sink)
+    let found = left_by(alloc, line, ("o.v", "o.v.json"), &mut shelf, &mut sink)?;
+    audit_masked(alloc, line, &found, faults, &mut shelf)?;
+    Ok(found)
 }
 
 /// The outcome of a command over a shelf that holds the library as `l.lib`, the netlist as `n.v` and a stimulus as `s.json`.

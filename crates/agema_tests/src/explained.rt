@@ -5,12 +5,13 @@ use agm_bits::{List, Name};
 use annotations::AnnotationFault;
 use cell_library::{Bar, CellCause};
 use masked_writer::ReportCause;
+use probe_lists::ProbeCause;
 use std::alloc::Global;
 use std::test::Fail;
 use stimulus::StimulusCause;
 
 /// The status of each answer, and its line where its file or name has a blank, a line feed and a byte that is no text.
-const LINES: [(u8, &[u8]); 26] = [
+const LINES: [(u8, &[u8]); 28] = [
     (0, b"status 0 Done\n"),
     (2, b"status 2 Usage\n"),
     (3, b"status 3 ReadFault file=a b\n\xff\n"),
@@ -33,6 +34,8 @@ const LINES: [(u8, &[u8]); 26] = [
     (23, b"status 23 TooLarge operators=1025\n"),
     (24, b"status 24 BadReport cause=Version\n"),
     (25, b"status 25 BadStimulus cause=Inputs stream=1 step=2\n"),
+    (26, b"status 26 BadProbe cause=Cycle index=3\n"),
+    (27, b"status 27 NotHpc2 wire=a b\n\xff\n"),
     (
         29,
         b"status 29 BarredCell instance=a b\n\xff cell=b cause=Latch\n",
@@ -73,6 +76,7 @@ fn named_refusal(alloc: Global, status: u8, name: Name, other: Name) -> Result<R
         },
         20 => loop_of(alloc, name, other)?,
         22 => Refusal::Leak { port: name },
+        27 => Refusal::NotHpc2 { wire: name },
         29 => Refusal::BarredCell {
             instance: name,
             cell: other,
@@ -100,6 +104,10 @@ fn refusal_of(alloc: Global, status: u8, name: Name, other: Name) -> Result<Refu
             cause: StimulusCause::Inputs,
             stream: 1,
             step: 2,
+        },
+        26 => Refusal::BadProbe {
+            cause: ProbeCause::Cycle,
+            index: 3,
         },
         31 => Refusal::NotBuilt,
         35 => Refusal::TooWide { bits: 65537 },

@@ -2,6 +2,8 @@
 #![tactic(auto)]
 
 #[cfg(test)]
+mod audits;
+#[cfg(test)]
 mod command;
 #[cfg(test)]
 mod complete;
@@ -17,6 +19,10 @@ mod libraries;
 mod limits;
 #[cfg(test)]
 mod netlists;
+#[cfg(test)]
+mod networks;
+#[cfg(test)]
+mod probes;
 #[cfg(test)]
 mod product;
 #[cfg(test)]

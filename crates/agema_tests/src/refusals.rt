@@ -6,7 +6,7 @@ use std::test::Fail;
 use test_netlists::simple::TWO_CELLS;
 
 /// Lines whose words are no command, ask for what isn't built, or name a file that isn't there.
-const LINES: [(&str, &str); 22] = [
+const LINES: [(&str, &str); 38] = [
     ("", "status 2 Usage\n"),
     ("sim - n.v", "status 2 Usage\n"),
     ("sim - n.v s.json more", "status 2 Usage\n"),
@@ -17,6 +17,22 @@ const LINES: [(&str, &str); 22] = [
     ("report o.v more", "status 2 Usage\n"),
     ("reports o.v", "status 2 Usage\n"),
     ("report o.v", "status 3 ReadFault file=o.v.json\n"),
+    ("audit", "status 2 Usage\n"),
+    ("audit o.v", "status 2 Usage\n"),
+    ("audit o.v 0", "status 2 Usage\n"),
+    ("audit o.v 8", "status 2 Usage\n"),
+    ("audit o.v 01", "status 2 Usage\n"),
+    ("audit o.v 1 more", "status 2 Usage\n"),
+    ("audits o.v 1", "status 2 Usage\n"),
+    ("audit 1 o.v", "status 2 Usage\n"),
+    ("audit o.v 1", "status 3 ReadFault file=o.v\n"),
+    ("cones", "status 2 Usage\n"),
+    ("cones o.v 1", "status 2 Usage\n"),
+    ("cones o.v 0 p.json", "status 2 Usage\n"),
+    ("cones o.v 8 p.json", "status 2 Usage\n"),
+    ("cones o.v 1 p.json more", "status 2 Usage\n"),
+    ("cone o.v 1 p.json", "status 2 Usage\n"),
+    ("cones o.v 1 p.json", "status 3 ReadFault file=o.v\n"),
     ("mask", "status 2 Usage\n"),
     ("unmask - n.v 2 naive pipe o.v", "status 2 Usage\n"),
     ("mask - n.v 2 naive pipe o.v more", "status 2 Usage\n"),

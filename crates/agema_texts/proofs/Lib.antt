@@ -8,3 +8,5 @@ mod Same
 mod Stimuli
 mod Readings
 mod Costs
+mod Audits
+mod Probes

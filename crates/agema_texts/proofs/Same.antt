@@ -62,7 +62,7 @@ binds_not_fails once cells bytes design net read other spelled f fails =
     cc
 
 -- what is read is not unread
-read_not_unread : SpellsOnce → (cells : List PlainCell) (bytes : List ℕ) (design : PlainDesign) (net : PlainNet) (r : Refusal) → IsRead cells bytes design net → IsUnread cells bytes r → Prim.⊥
+pub read_not_unread : SpellsOnce → (cells : List PlainCell) (bytes : List ℕ) (design : PlainDesign) (net : PlainNet) (r : Refusal) → IsRead cells bytes design net → IsUnread cells bytes r → Prim.⊥
 read_not_unread once cells bytes design net (NetSyntax at) read (short, none, within) = none design read.spelled
 read_not_unread once cells bytes design net (Loop names) read (short, other, spelled, twin, binds, wires, is_loop, named) =
     let same : other ≡ design = once bytes other design spelled read.spelled in

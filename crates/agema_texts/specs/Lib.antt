@@ -7,3 +7,5 @@ pub mod Masks
 pub mod Marked
 pub mod Sims
 pub mod Reported
+pub mod Auditing
+pub mod Probing

@@ -1,15 +1,19 @@
-ghost use Rattle.std.specs.Prelude.{◌≡◌, ℕ, List};
+ghost use Rattle.std.specs.Prelude.{◌≡◌, ◌≤◌, ℕ, List, length};
 ghost use Rattle.agm_net.specs.Plain.{PlainNet};
 ghost use Rattle.agm_net.specs.declared.mark.Mark as mark_type;
 ghost use Rattle.cell_library.specs.Judged.{PlainCell};
 ghost use Rattle.stimulus.specs.declared.stimuli.Stream as stream_type;
 ghost use Rattle.agema_answers.specs.declared.refusal.Refusal as refusal_type;
-ghost use Rattle.agema_texts.specs.Original.{IsOriginal, IsUnread, BreaksRead};
-ghost use Rattle.agema_texts.specs.Masks.{CanMask, IsUnmasked};
+ghost use Rattle.agema_texts.specs.Original.{IsOriginal, IsUnread, BreaksRead, length_limit};
+ghost use Rattle.agema_texts.specs.Auditing.{Audits, CanAudit, IsUnaudited};
+ghost use Rattle.agema_texts.specs.Masks.{CanMask, IsUnmasked, Masks};
+ghost use Rattle.agema_texts.specs.Probing.{CanProbe, Cones, IsUnprobed};
 ghost use Rattle.agema_texts.specs.Reported.{CanReport, IsBadReport};
 ghost use Rattle.agema_texts.specs.Sims.{IsClocked, CanSim, HasStreams, IsBadStimulus, IsUnclocked, IsUndriven};
 
+use agm_net::one_label;
 use masked_writer::one_report;
+use probe_lists::{one_list, probes_fit};
 use stimulus::texts_are_one;
 use verilog_reader::one_design;
 
@@ -36,4 +40,25 @@ pub fn one_reading()
     ensures { (text : List ℕ) (refusal : refusal_type.Refusal) → CanReport text → IsBadReport text refusal → ⊥ }
 {
     one_report();
+}
+
+/// A law: the bytes of a netlist determine what an audit prints. What is printed is not refused; and what `mask` writes is audited, unless
+/// it is too long to be read.
+pub fn one_audit()
+    ensures printed { (bytes : List ℕ) (order : ℕ) (p q : List ℕ) → Audits bytes order p → Audits bytes order q → p ≡ q }
+    ensures passed { (bytes : List ℕ) (order : ℕ) (refusal : refusal_type.Refusal) → CanAudit bytes order → IsUnaudited bytes order refusal → ⊥ }
+    ensures masked { (cells : List PlainCell) (bytes : List ℕ) (order : ℕ) (out file line : List ℕ) → Masks cells bytes order out file line → length out ≤ length_limit → CanAudit out order }
+{
+    one_design();
+}
+
+/// A law: the bytes of a netlist and a text of probes determine what is printed of the probes. What is printed is not refused.
+pub fn one_probing()
+    ensures printed { (bytes : List ℕ) (order : ℕ) (text p q : List ℕ) → Cones bytes order text p → Cones bytes order text q → p ≡ q }
+    ensures passed { (bytes : List ℕ) (order : ℕ) (text : List ℕ) (refusal : refusal_type.Refusal) → CanProbe bytes order text → IsUnprobed bytes order text refusal → ⊥ }
+{
+    one_design();
+    one_label();
+    one_list();
+    probes_fit();
 }

@@ -27,8 +27,8 @@ pub struct Read {
     pub graph: Graph,
 }
 
-// The design that bytes spell.
-fn spelled(alloc: Global, bytes: &[u8]) -> Result<Design, Ended>
+/// The design that bytes spell.
+pub(crate) fn spelled(alloc: Global, bytes: &[u8]) -> Result<Design, Ended>
     ensures ok { IfOk result (λ d. Spelled bytes.now (design_view d)) }
     ensures err { IfErr result (EndsBy (IsUnspelled bytes.now)) }
 {
@@ -39,8 +39,8 @@ fn spelled(alloc: Global, bytes: &[u8]) -> Result<Design, Ended>
     }
 }
 
-// The net that a design binds to.
-fn bound_net(alloc: Global, library: &Library, design: &Design) -> Result<Net, Ended>
+/// The net that a design binds to.
+pub(crate) fn bound_net(alloc: Global, library: &Library, design: &Design) -> Result<Net, Ended>
     ensures ok { IfOk result (λ net. bound (map cell_of library.now.cells) (design_view design.now) ≡ Ok (plain_of net)) }
     ensures err { IfErr result (EndsBy (IsUnbound (map cell_of library.now.cells) (design_view design.now))) }
 {
@@ -50,8 +50,8 @@ fn bound_net(alloc: Global, library: &Library, design: &Design) -> Result<Net, E
     }
 }
 
-// The name of a wire.
-fn name_of(alloc: Global, net: &Net, wire: usize) -> Result<Name, Memory>
+/// The name of a wire.
+pub(crate) fn name_of(alloc: Global, net: &Net, wire: usize) -> Result<Name, Memory>
     ensures { IfOk result (λ name. name ≡ wire_name (plain_of net.now) wire) }
 {
     match net.wires.as_slice().get(wire) {
@@ -71,8 +71,8 @@ fn names_of(alloc: Global, net: &Net, wires: &[usize]) -> Result<List<Name>, Mem
     Ok(names)
 }
 
-// The answer for a loop.
-fn loop_ended(alloc: Global, net: &Net, wires: &[usize]) -> Ended
+/// The answer for a loop.
+pub(crate) fn loop_ended(alloc: Global, net: &Net, wires: &[usize]) -> Ended
     ensures { EndsBy (IsLooped (plain_of net.now) wires.now) result }
 {
     match names_of(alloc, net, wires) {

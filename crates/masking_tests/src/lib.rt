@@ -4,4 +4,6 @@
 #[cfg(test)]
 mod gadgets;
 #[cfg(test)]
+mod labels;
+#[cfg(test)]
 mod public_wires;
