@@ -1,0 +1,5 @@
+pub mod More
+pub mod Added
+pub mod Made
+pub mod Whole
+pub mod Streams
