@@ -8,6 +8,8 @@ mod command;
 #[cfg(test)]
 mod complete;
 #[cfg(test)]
+mod costs;
+#[cfg(test)]
 mod evaluated;
 #[cfg(test)]
 mod explained;

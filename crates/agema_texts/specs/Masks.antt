@@ -1,8 +1,9 @@
 -- What `mask` writes for a netlist, and when it is refused.
-use Rattle.std.specs.Prelude.{◌≡◌, ◌≤◌, ◌<◌, ◌*◌, ◌+◌, ◌⊎◌, ℕ, Bool, true, false, List, [], length, filter, Ok, slice_get}
+use Rattle.std.specs.Prelude.{◌≡◌, ◌≤◌, ◌<◌, ◌*◌, ◌+◌, ◌⊎◌, ◌∷◌, ℕ, Bool, true, false, List, [], length, filter, Ok, slice_get}
 use Rattle.std.specs.Option.{option_map_or}
 use Rattle.agm_net.specs.Network.{Hpc2, HasGadgets}
 use Rattle.agm_net.specs.Plain.{PlainNet}
+use Rattle.agm_net.specs.Renumbered.{Renumbered}
 use Rattle.agm_net.specs.declared.mark.Mark.{Mark}
 use Rattle.annotations.specs.Rules.{annotation_rules}
 use Rattle.cell_library.specs.Judged.{PlainCell}
@@ -13,7 +14,7 @@ use Rattle.share_wiring.specs.declared.report.Mode.TheVariants.{Naive}
 use Rattle.share_wiring.specs.declared.report.Balance.TheVariants.{Pipe}
 use Rattle.share_wiring.specs.ReportOf.{ReportOf}
 use Rattle.share_wiring.specs.Same.{Same}
-use Rattle.small_net.specs.Texts.{StatesNet}
+use Rattle.net_design.specs.Design.{module_of}
 use Rattle.whole_networks.specs.Whole.{IsSecure}
 use Rattle.masked_writer.specs.Report.{report_text}
 use Rattle.verilog_reader.specs.Plain.{PlainDesign}
@@ -44,9 +45,14 @@ size_of net order = operators_of net * ((order + 1) * (order + 1))
 abbrev pub GivesNet : List ℕ → PlainNet → Type 0
 GivesNet bytes net = (design : PlainDesign) × Spelled bytes design × (bound [] design ≡ Ok net)
 
--- What is written for an original: OUT spells a design that binds to a masked net, which computes what the original does. It is a small
--- text. The net is an HPC2 network of the order, with as many gadgets as the naive mode costs: its probes isolate, and tell nothing of
--- the secrets. The report's file and the printed line are those of a report of the original.
+-- the bytes spell one module, that of the net with its wires in some order
+abbrev pub SpellsModule : List ℕ → PlainNet → Type 0
+SpellsModule bytes net = (other : PlainNet) × Renumbered other net × Spelled bytes (module_of other ∷ [])
+
+-- What is written for an original: OUT spells a design that binds to a masked net, which computes what the original does. That is one
+-- module `agm_top`, in which the clock's port alone is marked. The net is an HPC2 network of the order, with as many gadgets as the naive
+-- mode costs: its probes isolate, and tell nothing of the secrets. The report's file and the printed line are those of a report of the
+-- original.
 pub record MasksNet (original : PlainNet) (marks : List Mark) (order : ℕ) (out file line : List ℕ) : Type 0 where
   pub masked : PlainNet
   pub report : Report
@@ -54,7 +60,7 @@ pub record MasksNet (original : PlainNet) (marks : List Mark) (order : ℕ) (out
   pub latency : ℕ
   pub costs : NaiveCosts original marks gadgets latency
   pub gives : GivesNet out masked
-  pub is_small : StatesNet out masked
+  pub one_module : SpellsModule out masked
   pub reported : ReportOf original marks order Naive Pipe gadgets latency report
   pub file_is : file ≡ report_text report
   pub line_is : line ≡ mask_line report

@@ -26,13 +26,12 @@ use agm_net::{Marks, Net};
 use annotations::annotate;
 use bound_names::bound_ports_are_named;
 use cell_library::Library;
+use design_binds::write_net;
 use logic_graph::Graph;
 use masked_writer::report_text;
 use pipeline_balance::pipelined;
 use secrecy_spread::Secrets;
 use share_wiring::{Mode, renumbered_is_same};
-use small_design::small_text_binds;
-use small_net::write_small_net;
 use std::alloc::Global;
 use whole_networks::{
     named_networks_are_secure, renumbered_has_gadgets, renumbered_is_net, renumbered_is_network,
@@ -110,7 +109,6 @@ fn texts_of(
     requires original { IsMaskable (plain_of read.now.net) read.now.graph marks.now.kinds secrets.now planned.now.xan planned.now.plan order }
     ensures { IfOk result (λ t. MasksNet (plain_of read.now.net) marks.now.kinds order t.net (string_bytes t.report) (string_bytes t.line)) }
 {
-    small_text_binds();
     renumbered_is_same();
     renumbered_is_net();
     renumbered_is_network();
@@ -127,7 +125,7 @@ fn texts_of(
         Mode::Naive,
         order,
     )?;
-    let net = write_small_net(alloc, &masked.net)?;
+    let net = write_net(alloc, &masked.net)?;
     let report = report_text(alloc, &masked.report)?;
     let line = mask_line(alloc, &masked.report)?;
     Ok(Texts { net, report, line })

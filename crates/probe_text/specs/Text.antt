@@ -55,7 +55,7 @@ tape_line word rows = word ++ (flat_map (λ row. 32 ∷ row_text row) rows ++ 10
 
 -- a word, a blank, what is seen in a world, and a line feed
 abbrev pub seen_line : (word : List ℕ) → Row → List ℕ
-seen_line word seen = word ++ (32 ∷ (row_text seen ++ 10 ∷ []))
+seen_line word seen = word ++ (32 ∷ (map digit seen ++ 10 ∷ []))
 
 -- The permitted indices, a tape of random bits and its twin, and what is seen in each of the two worlds.
 abbrev pub twin_text : (indices : List ℕ) → (random twin : List Row) → (first second : Row) → List ℕ

@@ -9,8 +9,8 @@ use agm_bits::{BitRow, List, Memory, Name, Tape};
 use sim_text::digit_of;
 use std::alloc::Global;
 
-// The bits of a row.
-fn push_bits(text: &mut Name, row: &BitRow) -> Result<(), Memory>
+/// Appends the bits of a row from the first.
+pub(crate) fn push_bits(text: &mut Name, row: &BitRow) -> Result<(), Memory>
     ensures { OnOk result (text.new ≡ text.old ++ map digit row.now) }
 {
     for k in 0..row.len() {

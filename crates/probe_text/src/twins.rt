@@ -5,7 +5,7 @@ ghost use Rattle.std.specs.List.{flat_map};
 ghost use Rattle.probe_text.specs.Text as spec;
 
 use crate::cones::push_allowed;
-use crate::rows::push_row;
+use crate::rows::{push_bits, push_row};
 use agm_bits::{BitRow, Memory, Name, Tape};
 use std::alloc::Global;
 
@@ -35,7 +35,7 @@ fn push_seen(text: &mut Name, word: &[u8], seen: &BitRow) -> Result<(), Memory>
 {
     text.extend(word)?;
     text.extend(b" ")?;
-    push_row(text, seen)?;
+    push_bits(text, seen)?;
     text.extend(b"\n")
 }
 

@@ -39,7 +39,7 @@ returns c =
     let marks = c.args.marks.now.kinds in
     let N : ℕ → Type 0 = λ n. HasGadgets (plain_of c.in_ok-masked.masked.net) c.args.order n in
     masks_net net marks c.args.order c.in_ok-net.net (string_bytes c.in_ok-report.report) (string_bytes c.in_ok-line.line)
-    (plain_of c.in_ok-masked.masked.net) c.in_ok-masked.masked.report plan.gadgets plan.depth c.small_text_binds.ensures c.renumbered_is_same.ensures
+    (plain_of c.in_ok-masked.masked.net) c.in_ok-masked.masked.report plan.gadgets plan.depth c.renumbered_is_same.ensures
     c.renumbered_is_net.ensures c.renumbered_is_network.ensures c.renumbered_has_gadgets.ensures c.named_networks_are_secure.ensures known.names c.in_ok-masked.masked.net.well_formed
     masked.network (subst N masked.report.gadgets_are masked.gadgets) known.last
     (costs_of net c.args.read.now.graph marks c.args.secrets.now c.args.planned.now.xan plan known.is_graph known.are_secrets known.is_made known.is_planned)

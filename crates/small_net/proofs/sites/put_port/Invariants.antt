@@ -1,7 +1,0 @@
-use Rattle.std.proofs.Common.{◌≡◌, fold, map, take}
-use Rattle.std.specs.List.{enumerate_from}
-use Rattle.small_net.specs.Sites.{bit_site, put}
-use Rattle.small_net.proofs.sites.put_port.Given as goal
-
-abbrev pub invariant-loop-i : goal.invariant-loop-i
-invariant-loop-i l = l.sites ≡ fold put l.initial.sites (map (bit_site l.number l.port.range) (enumerate_from 0 (take l.i l.port.bits)))

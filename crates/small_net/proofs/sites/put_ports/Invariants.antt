@@ -1,6 +1,0 @@
-use Rattle.std.proofs.Common.{◌≡◌, fold, take}
-use Rattle.small_net.specs.Sites.{all_sites, put}
-use Rattle.small_net.proofs.sites.put_ports.Given as goal
-
-abbrev pub invariant-loop-number : goal.invariant-loop-number
-invariant-loop-number l = l.sites ≡ fold put l.initial.sites (all_sites (take l.number l.ports))

@@ -1,5 +1,0 @@
-pub mod States
-pub mod Texts
-pub mod Written
-pub mod Sites
-pub mod Netlist
