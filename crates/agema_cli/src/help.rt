@@ -48,7 +48,7 @@ pub(crate) const HELP: &str =
     PROBES   at most D probes and share indices, as JSON:
              {\"indices\":[],\"probes\":[{\"cycle\":0,\"wire\":\"x\"}]}
 
-  for example:  agema cones parity_masked.v 1 examples/probes.json
+  for example:  agema cones product_masked.v 2 examples/probes.json
 
     OUT is audited first. It prints a line for each probe with what glitches can bring to it: the names of inputs and
     registers. A last line has the share indices that probes and indices together may depend on.
