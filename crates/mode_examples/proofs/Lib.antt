@@ -1,0 +1,10 @@
+mod Tests
+mod Nets
+mod Graphs
+mod Flags
+mod Rounds
+mod NaiveCosts
+mod AigCosts
+mod BddCosts
+mod Read
+mod Facts
