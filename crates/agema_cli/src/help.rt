@@ -29,6 +29,13 @@ pub(crate) const HELP: &str =
 
     It runs the netlist cycle by cycle, and prints a line for each stream and step with the output ports' bits.
 
+  agema both LIB NET D MODE BALANCE OUT STIM SEED
+
+    SEED     64 hexadecimal digits, a to f small, from which shares and random bits are drawn
+
+    It masks the netlist, runs it and the masked one side by side, and prints a line for each stream, step and output
+    port: its value, what the shares recombine to, and the shares. It writes OUT, without a report.
+
   agema report OUT
 
     It prints the line of mask again, by the report beside OUT.

@@ -1,7 +1,8 @@
 -- Words are read as the command that they are.
-use Rattle.std.proofs.Common.{◌≡◌, ◌≤◌, ◌<◌, ◌+◌, ◌-◌, ◌⊎◌, ℕ, Bool, true, false, cond, ◌&&◌, List, [], ◌∷◌, length, Option, Some, None, codes, refl, sym, ap, ◌∙◌, subst, arith, inl, inr, nat_le}
+use Rattle.std.proofs.Common.{◌≡◌, ◌≤◌, ◌<◌, ◌+◌, ◌-◌, ◌⊎◌, ◌++◌, ℕ, Bool, true, false, cond, ◌&&◌, List, [], ◌∷◌, drop, length, Option, Some, None, codes, refl, sym, ap, ◌∙◌, subst, arith, inl, inr, nat_le}
 use Rattle.std.specs.Str.{bytes_eq}
 use Rattle.std.specs.Fmt.{decimal}
+use Rattle.hex.specs.Hex.{encode_lower}
 use Rattle.std.proofs.lemmas.Fmt.{decimal_digit}
 use Rattle.std.proofs.lemmas.Slice.Eq.{bytes_eq-Decides}
 use Rattle.std.proofs.lemmas.Bool.Decides.{nat_tests}
@@ -10,8 +11,10 @@ use Rattle.share_wiring.specs.declared.report.Mode.TheVariants.{Naive, Aig, Bdd}
 use Rattle.share_wiring.specs.declared.report.Balance.{Balance}
 use Rattle.share_wiring.specs.declared.report.Balance.TheVariants.{Pipe, Gate}
 use Rattle.masked_writer.specs.Report.{mode_text, balance_text}
-use Rattle.agema_core.specs.Words.{Mask, Sim, IsOrder, IsMask, IsSim, Reporting, IsReporting, Auditing, IsAuditing, Probing, IsProbing, Request, mask, sim, reporting, auditing, probing, Asks}
-use Rattle.agema_core.specs.Command.{◌>>=◌, order_of, mode_of, balance_of, is_filled, are_names, parts_of, mask_request, audit_by, audit_request, cones_by, cones_request, sim_request, command_of}
+use Rattle.agema_core.specs.Words.{Mask, Sim, IsOrder, IsMask, IsSim, Reporting, IsReporting, Auditing, IsAuditing, Probing, IsProbing, Comparing, IsComparing, Request, mask, sim, reporting, auditing, probing, comparing, Asks}
+use Rattle.agema_core.specs.Command.{◌>>=◌, order_of, mode_of, balance_of, is_filled, are_names, parts_of, mask_request, audit_by, audit_request, cones_by, cones_request, sim_request, comparing_by, comparing_request, command_of}
+use Rattle.agema_core.specs.Seed.{IsSeed, seed_of}
+use Rattle.agema_core.proofs.Seeds as seeds
 
 -- the two ways of a choice
 chosen : {X : Type 0} (b : Bool) (x y z : X) → cond b x y ≡ z → ((b ≡ true) × (x ≡ z)) ⊎ ((b ≡ false) × (y ≡ z))
@@ -154,12 +157,31 @@ cones_read words p is =
     let probes = some_filled p.probes is.has_probes in
     ap command_of is.words_are ∙ rw (out, probes) (ap (cones_by p.out p.probes) (order_read p.order is.order_fits))
 
+-- those of a `both` command are read as it
+both_read : (words : List (List ℕ)) (c : Comparing) → IsComparing words c → command_of words ≡ Some (comparing c)
+both_read words c is =
+    let m = c.masking in
+    let masks = is.is_mask in
+    let head : is.head ≡ m.library ∷ m.net ∷ decimal m.order ∷ mode_text m.mode ∷ balance_text m.balance ∷ m.out ∷ [] = ap (drop 1) masks.words_are in
+    let all : words ≡ codes "both" ∷ m.library ∷ m.net ∷ decimal m.order ∷ mode_text m.mode ∷ balance_text m.balance ∷ m.out ∷ c.stimulus ∷ encode_lower c.seed ∷ [] =
+    is.words_are ∙ ap (λ h. codes "both" ∷ (h ++ c.stimulus ∷ encode_lower c.seed ∷ [])) head in
+    let library = some_filled m.library masks.has_library in
+    let net = some_filled m.net masks.has_net in
+    let out = some_filled m.out masks.has_out in
+    let stimulus = some_filled c.stimulus is.has_stimulus in
+    ap command_of all
+    ∙ rw (library, net, out)
+    (rw stimulus
+    (ap (λ o. comparing_by c.stimulus o (seed_of (encode_lower c.seed))) (parts_read m masks.order_fits)
+    ∙ ap (λ o. comparing_by c.stimulus (Some m) o) (seeds.seed_read c.seed is.seed_fits)))
+
 pub command_read : (words : List (List ℕ)) (r : Request) → Asks words r → command_of words ≡ Some r
 command_read words (mask m) is = mask_read words m is
 command_read words (sim s) is = sim_read words s is
 command_read words (reporting r) is = report_read words r is
 command_read words (auditing a) is = audit_read words a is
 command_read words (probing p) is = cones_read words p is
+command_read words (comparing c) is = both_read words c is
 
 -- what names that are none is not empty
 names_are : (own command first second third : List ℕ) → are_names own command first second third ≡ true
@@ -218,6 +240,44 @@ cones_asked command out order probes r own h =
       | inr n ↦ (let e = n.1 in cc)
     ]
 
+comparing_some : (stimulus : List ℕ) (o : Option Mask) (s : Option (List ℕ)) (r : Request) → comparing_by stimulus o s ≡ Some r
+    → (m : Mask) × (seed : List ℕ) × (o ≡ Some m) × (s ≡ Some seed) × (comparing (record { masking = m; stimulus = stimulus; seed = seed }) ≡ r)
+comparing_some stimulus None s r h = cc
+comparing_some stimulus (Some m) None r h = cc
+comparing_some stimulus (Some m) (Some seed) r h = (m, seed, refl, refl, cc)
+
+-- a mask that is read, of names that are not empty
+mask_is : (library net order mode balance out : List ℕ) (m : Mask) → IsParts library net order mode balance out m → 0 < length library → 0 < length net → 0 < length out
+    → IsMask (codes "mask" ∷ library ∷ net ∷ order ∷ mode ∷ balance ∷ out ∷ []) m
+mask_is library net order mode balance out m p has_library has_net has_out = record {
+  words_are = (let a = p.0 in let b = p.1 in let c = p.2 in let d = p.3 in let e = p.4 in let f = p.5 in cc);
+  order_fits = p.6;
+  has_library = rw p.0 has_library;
+  has_net = rw p.1 has_net;
+  has_out = rw p.2 has_out;
+}
+
+-- nine words that are read as a `both` command
+both_asked : (library net order mode balance out stimulus seed : List ℕ) (r : Request) → 0 < length library → 0 < length net → 0 < length out
+    → comparing_request (parts_of library net order mode balance out) stimulus seed ≡ Some r → Asks (codes "both" ∷ library ∷ net ∷ order ∷ mode ∷ balance ∷ out ∷ stimulus ∷ seed ∷ []) r
+both_asked library net order mode balance out stimulus seed r has_library has_net has_out h =
+    elim (chosen (is_filled stimulus) (comparing_by stimulus (parts_of library net order mode balance out) (seed_of seed)) None (Some r) h) [
+      | inl y ↦ (
+          let found = comparing_some stimulus (parts_of library net order mode balance out) (seed_of seed) r y.1 in
+          let m = found.0 in
+          let spelled = seeds.read_seed seed found.1 found.3 in
+          let head = library ∷ net ∷ order ∷ mode ∷ balance ∷ out ∷ [] in
+          let is : IsComparing (codes "both" ∷ library ∷ net ∷ order ∷ mode ∷ balance ∷ out ∷ stimulus ∷ seed ∷ []) (record { masking = m; stimulus = stimulus; seed = found.1 }) = record {
+            head = head;
+            is_mask = mask_is library net order mode balance out m (read_parts library net order mode balance out m found.2) has_library has_net has_out;
+            words_are = ap (λ s. codes "both" ∷ (head ++ stimulus ∷ s ∷ [])) spelled.1;
+            has_stimulus = filled_some stimulus y.0;
+            seed_fits = spelled.0;
+          } in
+          subst (Asks (codes "both" ∷ library ∷ net ∷ order ∷ mode ∷ balance ∷ out ∷ stimulus ∷ seed ∷ [])) found.4 is)
+      | inr n ↦ (let e = n.1 in cc)
+    ]
+
 -- what is read is what the words ask for
 pub read_command : (words : List (List ℕ)) (r : Request) → command_of words ≡ Some r → Asks words r
 read_command (command ∷ library ∷ net ∷ order ∷ mode ∷ balance ∷ out ∷ []) r h =
@@ -235,6 +295,14 @@ read_command (command ∷ library ∷ net ∷ order ∷ mode ∷ balance ∷ out
             has_out = rw p.2 names.3;
           } in
           subst (Asks (command ∷ library ∷ net ∷ order ∷ mode ∷ balance ∷ out ∷ [])) found.2 is)
+      | inr n ↦ (let e = n.1 in cc)
+    ]
+read_command (command ∷ library ∷ net ∷ order ∷ mode ∷ balance ∷ out ∷ stimulus ∷ seed ∷ []) r h =
+    elim (chosen (are_names (codes "both") command library net out) (comparing_request (parts_of library net order mode balance out) stimulus seed) None (Some r) h) [
+      | inl y ↦ (
+          let names = names_are (codes "both") command library net out y.0 in
+          subst (λ word. Asks (word ∷ library ∷ net ∷ order ∷ mode ∷ balance ∷ out ∷ stimulus ∷ seed ∷ []) r) (sym names.0)
+          (both_asked library net order mode balance out stimulus seed r names.1 names.2 names.3 y.1))
       | inr n ↦ (let e = n.1 in cc)
     ]
 read_command (command ∷ first ∷ second ∷ third ∷ []) r h =

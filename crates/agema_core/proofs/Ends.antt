@@ -1,5 +1,5 @@
 -- Facts on the causes of answers.
-use Rattle.std.proofs.Common.{◌≡◌, ◌≤◌, ◌⊎◌, ◌∙◌, ℕ, List, [], Bool, IsTrue, Option, Some, Result, Ok, Err, IfErr, length, map, refl, ap, sym, subst, subst₂, inl, inr, arith}
+use Rattle.std.proofs.Common.{◌≡◌, ◌≤◌, ◌⊎◌, ◌∙◌, ℕ, List, [], Bool, IsTrue, Option, Some, None, Result, Ok, Err, IfErr, length, map, refl, ap, sym, subst, subst₂, inl, inr, arith}
 use Rattle.agm_net.specs.Plain.{PlainNet}
 use Rattle.agm_shelf.specs.Shelf.{Contents}
 use Rattle.cell_library.specs.Judged.{PlainCell}
@@ -7,7 +7,9 @@ use Rattle.cell_library.specs.Spelled.{Spelled, cell_name, first_fault}
 use Rattle.agema_texts.specs.Original.{EndsBy, length_limit}
 use Rattle.agema_texts.specs.Masks.{Masks, CanMask, IsWithin, IsUnmasked}
 use Rattle.agema_texts.proofs.Ends.{of_binding}
+use Rattle.agema_texts.proofs.Comparings.{short_stimulus}
 use Rattle.agema_texts.specs.Auditing.{CanAudit, IsUnaudited}
+use Rattle.agema_texts.specs.Comparing.{CanCompare, IsUncompared}
 use Rattle.agema_texts.specs.Probing.{CanProbe, IsBadList, IsNetwork, IsUnprobed}
 use Rattle.agema_texts.specs.Reported.{CanReport, IsBadReport}
 use Rattle.agema_texts.specs.Sims.{CanSim, IsClocked, IsUnclocked, IsUndriven, IsBadStimulus, IsSimulated, Sims}
@@ -15,7 +17,8 @@ use Rattle.agema_answers.specs.declared.ended.Ended.{Ended}
 use Rattle.agema_answers.specs.declared.ended.Ended.TheVariants.{Done, Usage, ReadFault, WriteFault, PrintFault, Memory, Refused}
 use Rattle.agema_answers.specs.declared.refusal.Refusal.{Refusal}
 use Rattle.agema_answers.specs.declared.refusal.Refusal.TheVariants.{TooLong, LibrarySyntax, Cell, BadReport, BadStimulus, BadProbe}
-use Rattle.agema_core.specs.Words.{Mask, Sim, Reporting, Auditing, Probing, Request, mask, sim, reporting, auditing, probing, Asks, HasOrder}
+use Rattle.agema_core.specs.Compared.{ComparingFits, IsComparedEnd, IsMaskable}
+use Rattle.agema_core.specs.Words.{Mask, Sim, Reporting, Auditing, Probing, Comparing, Request, mask, sim, reporting, auditing, probing, comparing, Asks, HasOrder}
 use Rattle.agema_core.specs.Found.{Counts, Found, Holds, Told, IsTooLong, IsDash, IsLibrary, IsNoLibrary, HasWrongCell, IsWrongLibrary, AreCells, HoldsBoth, ToldBoth, IsLibraryEnd, IsInputEnd, IsReadEnd, IsPrintEnd}
 use Rattle.agema_core.specs.Answer.{HasCause, AtLibraryOr, MaskFits, IsMasked, SimFits, IsRunnable, IsMaskEnd, IsSimEnd, IsReportEnd, IsAuditEnd, AuditFits, IsConesEnd, ConesFit, OutFits, ProbesFit, report_name, IsComplete, NothingFails}
 use Rattle.agema_core.specs.Left.{IsDelivery}
@@ -39,6 +42,9 @@ cones_not_usage p f before now ended h e = let P : Ended → Type 0 = λ x. IsCo
 library_not_usage : (name : List ℕ) (tells sound : Bool) (held : Option (List ℕ)) (before now : ℕ) (ended : Ended) → IsLibraryEnd name tells sound held before now ended → ended ≡ Usage → Prim.⊥
 library_not_usage name tells sound held before now ended h e = let P : Ended → Type 0 = λ x. IsLibraryEnd name tells sound held before now x in subst P e h
 
+compared_not_usage : (c : Comparing) (f : Found) (before now : Counts) (ended : Ended) → IsComparedEnd c f before now ended → ended ≡ Usage → Prim.⊥
+compared_not_usage c f before now ended h e = let P : Ended → Type 0 = λ x. IsComparedEnd c f before now x in subst P e h
+
 pub not_usage : (r : Request) (f : Found) (before now : Counts) (ended : Ended) → HasCause r f before now ended → ended ≡ Usage → Prim.⊥
 not_usage (mask m) f before now ended (inl words) e = let other = words.1 in cc
 not_usage (mask m) f before now ended (inr (built, inl at)) e = library_not_usage m.library f.tells f.sound (f.holds m.library) before.reads now.reads ended at.1 e
@@ -48,6 +54,9 @@ not_usage (sim s) f before now ended (inr behind) e = sim_not_usage s f before n
 not_usage (reporting r) f before now ended h e = report_not_usage r f before now ended h e
 not_usage (auditing a) f before now ended h e = audit_not_usage a f before now ended h e
 not_usage (probing p) f before now ended h e = cones_not_usage p f before now ended h e
+not_usage (comparing c) f before now ended (inl words) e = let other = words.1 in cc
+not_usage (comparing c) f before now ended (inr (built, inl at)) e = library_not_usage c.masking.library f.tells f.sound (f.holds c.masking.library) before.reads now.reads ended at.1 e
+not_usage (comparing c) f before now ended (inr (built, inr behind)) e = compared_not_usage c f before now ended behind.1 e
 
 -- what is told of the text that is held
 pub told_of : (tells : Bool) (held : Option (List ℕ)) (Fact : List ℕ → Type 0) (text : List ℕ) → held ≡ Some text → IsTrue tells → Told tells held Fact → Fact text
@@ -313,16 +322,70 @@ cones_completes p f before now PrintFault once probed sound end held nothing = e
 cones_completes p f before now (Refused refusal) once probed sound end held nothing =
     absurd (cones_not_refused p f before now refusal once probed (tells_of f before now sound nothing) held end)
 
+-- by the law that what can be compared is not refused
+abbrev pub ComparesOnce : Type 0
+ComparesOnce = (cells : List PlainCell) (bytes : List ℕ) (order : ℕ) (stimulus : List ℕ) (refusal : Refusal) → CanCompare cells bytes order stimulus → IsUncompared cells bytes order stimulus refusal → Prim.⊥
+
+-- a netlist with a stimulus that can be compared is not refused
+compared_not_refused : (c : Comparing) (f : Found) (before now : Counts) (refusal : Refusal) → SpellsOnce → MaskedOnce → ComparesOnce → IsTrue f.tells → HoldsBoth c.masking.library c.masking.net f.holds (ComparingFits c f) → IsComparedEnd c f before now (Refused refusal) → Prim.⊥
+compared_not_refused c f before now (TooLong file) once masked compares tells (cells, are, (text, is, (stimulus, drives, can))) (inl (named, long)) =
+    let above = told_of f.tells (f.holds c.masking.net) IsTooLong text is tells long in
+    let short = short_original c.masking cells text can.0 in
+    absurd (omega arith)
+compared_not_refused c f before now (TooLong file) once masked compares tells held (inr (maskable, named, long)) =
+    let found = both_hold once c.masking.library c.masking.net f.holds (ComparingFits c f) (IsMaskable c) held (maskable tells) in
+    let drive = found.3 in
+    let above = told_of f.tells (f.holds c.stimulus) IsTooLong drive.0 drive.1 tells long in
+    let short = short_stimulus found.0 found.1 c.masking.order drive.0 drive.2 found.4 in
+    absurd (omega arith)
+compared_not_refused c f before now (BadStimulus cause stream step) once masked compares tells held end =
+    let Bad : List PlainCell → List ℕ → Type 0 = λ cells text. Holds (f.holds c.stimulus) (λ stimulus. IsUncompared cells text c.masking.order stimulus (BadStimulus cause stream step)) in
+    let found = both_hold once c.masking.library c.masking.net f.holds (ComparingFits c f) Bad held (end tells) in
+    let fits = found.3 in
+    let bad = found.4 in
+    let same : bad.0 ≡ fits.0 = (let e = fits.1 in let d = bad.1 in cc) in
+    let P : List ℕ → Type 0 = λ t. IsUncompared found.0 found.1 c.masking.order t (BadStimulus cause stream step) in
+    compares found.0 found.1 c.masking.order fits.0 (BadStimulus cause stream step) fits.2 (subst P same bad.2)
+compared_not_refused c f before now refusal once masked compares tells held end =
+    let found = both_hold once c.masking.library c.masking.net f.holds (ComparingFits c f) (λ cells text. IsUnmasked cells text c.masking.order refusal) held (end tells) in
+    masked found.0 found.1 c.masking.order refusal found.3.2.0 found.4
+
+compared_completes : (c : Comparing) (f : Found) (before now : Counts) (ended : Ended) → SpellsOnce → MaskedOnce → ComparesOnce → (IsTrue f.sound → IsTrue f.tells) → IsComparedEnd c f before now ended → HoldsBoth c.masking.library c.masking.net f.holds (ComparingFits c f) → NothingFails f before now → (ended ≡ Done) ⊎ (ended ≡ Memory)
+compared_completes c f before now Done once masked compares sound end held nothing = inl refl
+compared_completes c f before now Memory once masked compares sound end held nothing = inr refl
+compared_completes c f before now Usage once masked compares sound end held nothing = absurd end
+compared_completes c f before now (ReadFault file) once masked compares sound (inl (named, fails)) (cells, are, (text, is, fits)) nothing = elim nothing [
+  | inl counts ↦ absurd (counts.1.reads fails.0)
+  | inr sure ↦ (let none = fails.1 sure.0 in cc)
+]
+compared_completes c f before now (ReadFault file) once masked compares sound (inr (maskable, named, fails)) (cells, are, (text, is, (stimulus, drives, can))) nothing = elim nothing [
+  | inl counts ↦ absurd (counts.1.reads fails.0)
+  | inr sure ↦ (let none = fails.1 sure.0 in cc)
+]
+compared_completes c f before now (WriteFault file) once masked compares sound end held nothing = elim nothing [
+  | inl counts ↦ absurd (counts.1.writes end.2.0)
+  | inr sure ↦ absurd (end.2.1 sure.0)
+]
+compared_completes c f before now PrintFault once masked compares sound end held nothing = elim nothing [
+  | inl counts ↦ absurd (counts.1.prints end.1.0)
+  | inr sure ↦ absurd (end.1.1 sure.1)
+]
+compared_completes c f before now (Refused refusal) once masked compares sound end held nothing =
+    absurd (compared_not_refused c f before now refusal once masked compares (tells_of f before now sound nothing) held end)
+
 -- completeness follows from the causes
-pub completes : (r : Request) (f : Found) (before now : Counts) (ended : Ended) → SpellsOnce → MaskedOnce → RunsOnce → ReadsOnce → AuditsOnce → ProbesOnce → (IsTrue f.sound → IsTrue f.tells) → HasCause r f before now ended → IsComplete r f before now ended
-completes (mask m) f before now ended once masked runs reads audits probed sound (inl words) (built, held) nothing = absurd (words.0 built)
-completes (mask m) f before now ended once masked runs reads audits probed sound (inr (is, inl (named, at))) (built, (cells, are, text)) nothing = at_library m.library f before now ended cells once sound named at are nothing
-completes (mask m) f before now ended once masked runs reads audits probed sound (inr (is, inr (has, behind))) (built, held) nothing = mask_completes m f before now ended once masked sound behind held nothing
-completes (sim s) f before now ended once masked runs reads audits probed sound (inl (named, at)) (cells, are, text) nothing = at_library s.library f before now ended cells once sound named at are nothing
-completes (sim s) f before now ended once masked runs reads audits probed sound (inr (has, behind)) held nothing = sim_completes s f before now ended once runs sound behind held nothing
-completes (reporting r) f before now ended once masked runs reads audits probed sound end held nothing = report_completes r f before now ended reads sound end held nothing
-completes (auditing a) f before now ended once masked runs reads audits probed sound end held nothing = audit_completes a f before now ended audits sound end held nothing
-completes (probing p) f before now ended once masked runs reads audits probed sound end held nothing = cones_completes p f before now ended audits probed sound end held nothing
+pub completes : (r : Request) (f : Found) (before now : Counts) (ended : Ended) → SpellsOnce → MaskedOnce → RunsOnce → ReadsOnce → AuditsOnce → ProbesOnce → ComparesOnce → (IsTrue f.sound → IsTrue f.tells) → HasCause r f before now ended → IsComplete r f before now ended
+completes (mask m) f before now ended once masked runs reads audits probed compares sound (inl words) (built, held) nothing = absurd (words.0 built)
+completes (mask m) f before now ended once masked runs reads audits probed compares sound (inr (is, inl (named, at))) (built, (cells, are, text)) nothing = at_library m.library f before now ended cells once sound named at are nothing
+completes (mask m) f before now ended once masked runs reads audits probed compares sound (inr (is, inr (has, behind))) (built, held) nothing = mask_completes m f before now ended once masked sound behind held nothing
+completes (sim s) f before now ended once masked runs reads audits probed compares sound (inl (named, at)) (cells, are, text) nothing = at_library s.library f before now ended cells once sound named at are nothing
+completes (sim s) f before now ended once masked runs reads audits probed compares sound (inr (has, behind)) held nothing = sim_completes s f before now ended once runs sound behind held nothing
+completes (reporting r) f before now ended once masked runs reads audits probed compares sound end held nothing = report_completes r f before now ended reads sound end held nothing
+completes (auditing a) f before now ended once masked runs reads audits probed compares sound end held nothing = audit_completes a f before now ended audits sound end held nothing
+completes (probing p) f before now ended once masked runs reads audits probed compares sound end held nothing = cones_completes p f before now ended audits probed sound end held nothing
+completes (comparing c) f before now ended once masked runs reads audits probed compares sound (inl words) (built, held) nothing = absurd (words.0 built)
+completes (comparing c) f before now ended once masked runs reads audits probed compares sound (inr (is, inl (named, at))) (built, (cells, are, text)) nothing = at_library c.masking.library f before now ended cells once sound named at are nothing
+completes (comparing c) f before now ended once masked runs reads audits probed compares sound (inr (is, inr (has, behind))) (built, held) nothing = compared_completes c f before now ended once masked compares sound behind held nothing
 
 -- what was read is told of LIB and NET
 pub told_both : (library net : List ℕ) (f : Found) (Fact : List PlainCell → List ℕ → Type 0) (cells : List PlainCell) (text : List ℕ) → (IsTrue f.tells → AreCells library f.holds cells) → (IsTrue f.tells → f.holds net ≡ Some text) → Fact cells text → ToldBoth library net f Fact
@@ -362,7 +425,7 @@ unread_stimulus s f before now mid le runs _ h = absurd h
 
 -- a refusal of the stimulus ends `sim`
 pub refused_stimulus : (s : Sim) (f : Found) (before now : Counts) (cells : List PlainCell) (text stimulus : List ℕ) (net : PlainNet) → (IsTrue f.tells → AreCells s.library f.holds cells) → (IsTrue f.tells → f.holds s.net ≡ Some text) → (IsTrue f.tells → f.holds s.stimulus ≡ Some stimulus)
-    → IsClocked cells text net → (ended : Ended) → EndsBy (IsBadStimulus net stimulus) ended → IsSimEnd s f before now ended
+    → IsClocked cells text net → (ended : Ended) → EndsBy (IsBadStimulus net None stimulus) ended → IsSimEnd s f before now ended
 refused_stimulus s f before now cells text stimulus net are is drives clocked Memory h = tt
 refused_stimulus s f before now cells text stimulus net are is drives clocked (Refused (BadStimulus cause stream step)) h = λ t. (cells, are t, (text, is t, (stimulus, drives t, (net, clocked, h))))
 refused_stimulus s f before now cells text stimulus net are is drives clocked (Refused _) h = absurd h
@@ -433,6 +496,7 @@ order_fits words (sim s) is = tt
 order_fits words (reporting r) is = tt
 order_fits words (auditing a) is = is.order_fits
 order_fits words (probing p) is = is.order_fits
+order_fits words (comparing c) is = is.is_mask.order_fits
 
 pub runs_once : ((cells : List PlainCell) (bytes : List ℕ) (m n : PlainNet) → IsClocked cells bytes m → IsClocked cells bytes n → m ≡ n)
     → ((cells : List PlainCell) (bytes : List ℕ) (net : PlainNet) (refusal : Refusal) → IsClocked cells bytes net → IsUnclocked cells bytes refusal → Prim.⊥)

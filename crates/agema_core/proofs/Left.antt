@@ -23,7 +23,7 @@ all_taken [] = refl
 all_taken (x ∷ xs) = ap (λ ys. x ∷ ys) (all_taken xs)
 
 -- a whole text is one of its first parts
-whole_front : (text : List ℕ) (before now : Option (List ℕ)) → now ≡ Some text → IsFrontOrOld text before now
+pub whole_front : (text : List ℕ) (before now : Option (List ℕ)) → now ≡ Some text → IsFrontOrOld text before now
 whole_front text before now e = inr (length text, e ∙ ap (λ t. Some t) (sym (all_taken text)))
 
 -- both texts are whole, and so each is a first part

@@ -2,3 +2,5 @@ mod Commands
 mod Ends
 mod Left
 mod Counted
+mod Seeds
+mod Compared

@@ -13,7 +13,8 @@ use Rattle.agema_texts.specs.Sims.{CanSim, IsClocked, IsUnclocked, IsUndriven}
 use Rattle.agema_answers.specs.declared.ended.Ended.{Ended}
 use Rattle.agema_answers.specs.declared.ended.Ended.TheVariants.{Done, Usage, ReadFault, WriteFault, PrintFault, Memory, Refused}
 use Rattle.agema_answers.specs.declared.refusal.Refusal.TheVariants.{TooLong, BadReport, BadStimulus, BadProbe, NotBuilt}
-use Rattle.agema_core.specs.Words.{Mask, Sim, Reporting, Auditing, Probing, Request, mask, sim, reporting, auditing, probing}
+use Rattle.agema_core.specs.Compared.{ComparingFits, IsComparedEnd}
+use Rattle.agema_core.specs.Words.{Mask, Sim, Reporting, Auditing, Probing, Request, mask, sim, reporting, auditing, probing, comparing}
 use Rattle.agema_core.specs.Found.{Counts, Found, Holds, Told, Fails, ReadFails, IsTooLong, IsDash, HoldsBoth, ToldBoth, HasCells, IsLibraryEnd}
 
 -- the file of the report stands beside OUT
@@ -125,7 +126,7 @@ abbrev pub AtLibraryOr : (library : List ℕ) → Found → (before now : Counts
 AtLibraryOr library f before now ended Later =
     ((IsDash library → Prim.⊥) × IsLibraryEnd library f.tells f.sound (f.holds library) before.reads now.reads ended) ⊎ (HasCells library f × Later)
 
--- When each answer may come, for what was asked and what was found. `mask` may end at its words, at the library or behind it, `sim` at the
+-- When each answer may come, for what was asked and what was found. `mask` and `both` may end at their words, at the library or behind it, `sim` at the
 -- library or behind it, `report` and `audit` at their file or the printing. Each refusal at a file yields to a read fault and to want of memory.
 abbrev pub HasCause : Request → Found → (before now : Counts) → Ended → Type 0
 HasCause (mask m) f before now ended =
@@ -134,6 +135,8 @@ HasCause (sim s) f before now ended = AtLibraryOr s.library f before now ended (
 HasCause (reporting r) f before now ended = IsReportEnd r f before now ended
 HasCause (auditing a) f before now ended = IsAuditEnd a f before now ended
 HasCause (probing p) f before now ended = IsConesEnd p f before now ended
+HasCause (comparing c) f before now ended =
+    ((IsBuilt c.masking → Prim.⊥) × (ended ≡ Refused NotBuilt)) ⊎ (IsBuilt c.masking × AtLibraryOr c.masking.library f before now ended (IsComparedEnd c f before now ended))
 
 -- no count of faults rose
 pub record NoneRose (before now : Counts) : Type 0 where
@@ -152,6 +155,7 @@ CanServe (sim s) f = HoldsBoth s.library s.net f.holds (SimFits s f)
 CanServe (reporting r) f = Holds (f.holds (report_name r.out)) CanReport
 CanServe (auditing a) f = Holds (f.holds a.out) (λ text. CanAudit text a.order)
 CanServe (probing p) f = Holds (f.holds p.out) (ProbesFit p f)
+CanServe (comparing c) f = IsBuilt c.masking × HoldsBoth c.masking.library c.masking.net f.holds (ComparingFits c f)
 
 -- Completeness: where the shelf holds what the request wants and nothing fails, the command is done, or memory is wanted.
 abbrev pub IsComplete : Request → Found → (before now : Counts) → Ended → Type 0

@@ -5,12 +5,14 @@ use Rattle.share_wiring.specs.declared.report.Mode.{Mode}
 use Rattle.share_wiring.specs.declared.report.Mode.TheVariants.{Naive, Aig, Bdd}
 use Rattle.share_wiring.specs.declared.report.Balance.{Balance}
 use Rattle.share_wiring.specs.declared.report.Balance.TheVariants.{Pipe, Gate}
-use Rattle.agema_core.specs.Words.{Mask, Sim, Reporting, Auditing, Probing, Request, mask, sim, reporting, auditing, probing}
+use Rattle.agema_core.specs.Seed.{seed_of}
+use Rattle.agema_core.specs.Words.{Mask, Sim, Reporting, Auditing, Probing, Comparing, Request, mask, sim, reporting, auditing, probing, comparing}
 use Rattle.agema_core.specs.declared.words.MaskWords.{MaskWords}
 use Rattle.agema_core.specs.declared.words.SimWords.{SimWords}
 use Rattle.agema_core.specs.declared.words.ReportWords.{ReportWords}
 use Rattle.agema_core.specs.declared.words.AuditWords.{AuditWords}
 use Rattle.agema_core.specs.declared.words.ConesWords.{ConesWords}
+use Rattle.agema_core.specs.declared.words.BothWords.{BothWords}
 use Rattle.agema_core.specs.declared.words.Command.{Command}
 use Rattle.agema_core.specs.declared.words.Command.TheVariants as command
 
@@ -29,12 +31,16 @@ auditing_of c = record { out = c.out.now; order = c.order }
 abbrev pub probing_of : ConesWords → Probing
 probing_of c = record { out = c.out.now; order = c.order; probes = c.probes.now }
 
+abbrev pub comparing_of : BothWords → Comparing
+comparing_of c = record { masking = mask_of c.mask; stimulus = c.stimulus.now; seed = c.seed }
+
 abbrev pub request_of : Command → Request
 request_of (command.Mask m) = mask (mask_of m)
 request_of (command.Sim s) = sim (sim_of s)
 request_of (command.Report r) = reporting (reporting_of r)
 request_of (command.Audit a) = auditing (auditing_of a)
 request_of (command.Cones c) = probing (probing_of c)
+request_of (command.Both b) = comparing (comparing_of b)
 
 infixl 10 ◌>>=◌
 abbrev pub ◌>>=◌ : {A B : Type 0} → Option A → (A → Option B) → Option B
@@ -90,10 +96,21 @@ abbrev pub sim_request : (command library net stimulus : List ℕ) → Option Re
 sim_request command library net stimulus =
     cond (are_names (codes "sim") command library net stimulus) (Some (sim (record { library = library; net = net; stimulus = stimulus }))) None
 
+-- a netlist masked, with a stimulus and a seed
+abbrev pub comparing_by : (stimulus : List ℕ) → Option Mask → Option (List ℕ) → Option Request
+comparing_by stimulus None seed = None
+comparing_by stimulus (Some m) None = None
+comparing_by stimulus (Some m) (Some seed) = Some (comparing (record { masking = m; stimulus = stimulus; seed = seed }))
+
+abbrev pub comparing_request : Option Mask → (stimulus seed : List ℕ) → Option Request
+comparing_request masking stimulus seed = cond (is_filled stimulus) (comparing_by stimulus masking (seed_of seed)) None
+
 -- what the words say
 abbrev pub command_of : List (List ℕ) → Option Request
 command_of (command ∷ library ∷ net ∷ order ∷ mode ∷ balance ∷ out ∷ []) =
     cond (are_names (codes "mask") command library net out) (mask_request (parts_of library net order mode balance out)) None
+command_of (command ∷ library ∷ net ∷ order ∷ mode ∷ balance ∷ out ∷ stimulus ∷ seed ∷ []) =
+    cond (are_names (codes "both") command library net out) (comparing_request (parts_of library net order mode balance out) stimulus seed) None
 command_of (command ∷ first ∷ second ∷ third ∷ []) =
     cond (bytes_eq command (codes "cones")) (cones_request first second third) (sim_request command first second third)
 command_of (command ∷ out ∷ order ∷ []) = audit_request command out order

@@ -1,6 +1,7 @@
 -- What each answer of a run leaves.
 use Rattle.std.specs.Prelude.{◌≡◌, ◌≢◌, ◌⊎◌, ◌++◌, ℕ, List, Bool, IsTrue, Some}
 use Rattle.agm_shelf.specs.Shelf.{Contents, AllStay, IsFrontOrOld, TakesFront}
+use Rattle.agm_shelf.specs.Shelf as shelf
 use Rattle.agema_texts.specs.Masks.{Masks}
 use Rattle.agema_texts.specs.Auditing.{Audits}
 use Rattle.agema_texts.specs.Probing.{Cones}
@@ -8,7 +9,8 @@ use Rattle.agema_texts.specs.Reported.{Reports}
 use Rattle.agema_texts.specs.Sims.{Sims}
 use Rattle.agema_answers.specs.declared.ended.Ended.{Ended}
 use Rattle.agema_answers.specs.declared.ended.Ended.TheVariants.{Done, Usage, ReadFault, WriteFault, PrintFault, Memory, Refused}
-use Rattle.agema_core.specs.Words.{Mask, Sim, Reporting, Auditing, Probing, Request, mask, sim, reporting, auditing, probing}
+use Rattle.agema_core.specs.Compared.{LeavesCompared}
+use Rattle.agema_core.specs.Words.{Mask, Sim, Reporting, Auditing, Probing, Comparing, Request, mask, sim, reporting, auditing, probing, comparing}
 use Rattle.agema_core.specs.Found.{Fails, HoldsBoth, Holds}
 use Rattle.agema_core.specs.Answer.{report_name}
 
@@ -154,12 +156,23 @@ LeftByCones p told old new heard before now Done = LeavesCones p told old new he
 LeftByCones p told old new heard before now PrintFault = LeavesCones p told old new heard before now PrintFault
 LeftByCones p told old new heard before now (WriteFault file) = Prim.⊥
 
+-- What `both` leaves after each answer: all as it was, or the texts of OUT and of the lines or first parts of them.
+abbrev pub LeftByBoth : Comparing → Bool → Contents → Contents → Bool → (before now : List ℕ) → Ended → Type 0
+LeftByBoth c told old new heard before now Usage = LeavesAll old new before now
+LeftByBoth c told old new heard before now (ReadFault file) = LeavesAll old new before now
+LeftByBoth c told old new heard before now (Refused refusal) = LeavesAll old new before now
+LeftByBoth c told old new heard before now Memory = LeavesAll old new before now ⊎ LeavesCompared c told old new heard before now Memory
+LeftByBoth c told old new heard before now Done = LeavesCompared c told old new heard before now Done
+LeftByBoth c told old new heard before now PrintFault = LeavesCompared c told old new heard before now PrintFault
+LeftByBoth c told old new heard before now (WriteFault file) = LeavesCompared c told old new heard before now (WriteFault file)
+
 abbrev pub HasLeft : Request → Bool → Contents → Contents → Bool → (before now : List ℕ) → Ended → Type 0
 HasLeft (mask m) told old new heard before now ended = LeftByMask m told old new heard before now ended
 HasLeft (sim s) told old new heard before now ended = LeftBySim s told old new heard before now ended
 HasLeft (reporting r) told old new heard before now ended = LeftByReport r told old new heard before now ended
 HasLeft (auditing a) told old new heard before now ended = LeftByAudit a told old new heard before now ended
 HasLeft (probing p) told old new heard before now ended = LeftByCones p told old new heard before now ended
+HasLeft (comparing c) told old new heard before now ended = LeftByBoth c told old new heard before now ended
 
 -- names that are no outputs of the command hold what they held
 abbrev pub OthersStay : Request → Contents → Contents → Type 0
@@ -168,6 +181,7 @@ OthersStay (sim s) old new = AllStay old new
 OthersStay (reporting r) old new = AllStay old new
 OthersStay (auditing a) old new = AllStay old new
 OthersStay (probing p) old new = AllStay old new
+OthersStay (comparing c) old new = shelf.OthersStay c.masking.out old new
 
 -- answers of steps that write nothing
 abbrev pub IsUntouched : Ended → Type 0

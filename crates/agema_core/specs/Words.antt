@@ -1,9 +1,11 @@
 -- The words of a command.
-use Rattle.std.specs.Prelude.{◌≡◌, ◌≤◌, ◌<◌, ℕ, List, [], ◌∷◌, length, codes}
+use Rattle.std.specs.Prelude.{◌≡◌, ◌≤◌, ◌<◌, ◌++◌, ℕ, List, [], ◌∷◌, length, codes}
 use Rattle.std.specs.Fmt.{decimal}
+use Rattle.hex.specs.Hex.{encode_lower}
 use Rattle.share_wiring.specs.declared.report.Mode.{Mode}
 use Rattle.share_wiring.specs.declared.report.Balance.{Balance}
 use Rattle.masked_writer.specs.Report.{mode_text, balance_text}
+use Rattle.agema_core.specs.Seed.{IsSeed}
 
 -- what the words of a `mask` command say
 pub record Mask : Type 0 where
@@ -72,6 +74,20 @@ pub record IsProbing (words : List (List ℕ)) (p : Probing) : Type 0 where
   pub has_out : 0 < length p.out
   pub has_probes : 0 < length p.probes
 
+-- what the words of a `both` command say
+pub record Comparing : Type 0 where
+  pub masking : Mask
+  pub stimulus : List ℕ
+  pub seed : List ℕ
+
+-- the words are `both LIB NET D MODE BALANCE OUT STIM SEED`, those of `mask` with a stimulus and a seed, and STIM is not empty
+pub record IsComparing (words : List (List ℕ)) (c : Comparing) : Type 0 where
+  pub head : List (List ℕ)
+  pub is_mask : IsMask (codes "mask" ∷ head) c.masking
+  pub words_are : words ≡ codes "both" ∷ (head ++ c.stimulus ∷ encode_lower c.seed ∷ [])
+  pub has_stimulus : 0 < length c.stimulus
+  pub seed_fits : IsSeed c.seed
+
 -- what a command asks for
 pub data Request : Type 0 where
   mask : Mask → Request
@@ -79,6 +95,7 @@ pub data Request : Type 0 where
   reporting : Reporting → Request
   auditing : Auditing → Request
   probing : Probing → Request
+  comparing : Comparing → Request
 
 -- the words are a command that asks for this
 abbrev pub Asks : List (List ℕ) → Request → Type 0
@@ -87,6 +104,7 @@ Asks words (sim s) = IsSim words s
 Asks words (reporting r) = IsReporting words r
 Asks words (auditing a) = IsAuditing words a
 Asks words (probing p) = IsProbing words p
+Asks words (comparing c) = IsComparing words c
 
 -- an order that is asked for is one that can be
 abbrev pub HasOrder : Request → Type 0
@@ -95,3 +113,4 @@ HasOrder (sim s) = Unit {0}
 HasOrder (reporting r) = Unit {0}
 HasOrder (auditing a) = IsOrder a.order
 HasOrder (probing p) = IsOrder p.order
+HasOrder (comparing c) = IsOrder c.masking.order

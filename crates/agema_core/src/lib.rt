@@ -2,12 +2,14 @@
 #![tactic(auto)]
 
 mod audit;
+mod both;
 mod cones;
 mod files;
 mod inputs;
 mod mask;
 mod program;
 mod report;
+mod seed;
 mod sim;
 mod words;
 

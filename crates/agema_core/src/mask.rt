@@ -15,8 +15,8 @@ use agm_shelf::{Shelf, Sink};
 use share_wiring::{Balance, Mode};
 use std::alloc::Global;
 
-// Whether the words ask for what is built.
-fn is_built(words: &MaskWords<'_>) -> bool
+/// Whether the words ask for what is built.
+pub(crate) fn is_built(words: &MaskWords<'_>) -> bool
     ensures { IsTrue result ↔ IsBuilt (mask_of words.now) }
 {
     matches!(words.mode, Mode::Naive) && matches!(words.balance, Balance::Pipe)

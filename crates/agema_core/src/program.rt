@@ -6,13 +6,16 @@ ghost use Rattle.agema_core.specs.Answer.{HasCause, IsComplete};
 ghost use Rattle.agema_core.specs.Left.{HasLeft, LeavesAll, OthersStay};
 
 use crate::audit::run_audit;
+use crate::both::run_both;
 use crate::cones::run_cones;
 use crate::mask::run_mask;
 use crate::report::run_report;
 use crate::sim::run_sim;
 use crate::words::{Command, read_command};
 use agema_answers::Ended;
-use agema_texts::{one_audit, one_original, one_probing, one_reading, one_simulation};
+use agema_texts::{
+    one_audit, one_comparison, one_original, one_probing, one_reading, one_simulation,
+};
 use agm_shelf::{Shelf, Sink};
 use cell_library::one_library;
 use std::alloc::Global;
@@ -38,6 +41,7 @@ fn run_command<H: Shelf, K: Sink>(
         Command::Report(words) => run_report(alloc, words, shelf, out),
         Command::Audit(words) => run_audit(alloc, words, shelf, out),
         Command::Cones(words) => run_cones(alloc, words, shelf, out),
+        Command::Both(words) => run_both(alloc, words, shelf, out),
     }
 }
 
@@ -59,6 +63,7 @@ pub fn run<H: Shelf, K: Sink>(alloc: Global, words: &[String], shelf: &mut H, ou
     one_reading();
     one_audit();
     one_probing();
+    one_comparison();
     one_library();
     match read_command(words) {
         None => Ended::Usage,

@@ -1,7 +1,8 @@
-ghost use Rattle.std.specs.Prelude.{◌≡◌, map, string_bytes};
+ghost use Rattle.std.specs.Prelude.{◌≡◌, ◌∷◌, [], map, string_bytes};
 ghost use Rattle.std.specs.Option.{option_map};
 ghost use Rattle.agema_core.specs.Command as spec;
 
+use crate::seed::read_seed;
 use share_wiring::{Balance, Mode};
 
 /// The words of a `mask` command.
@@ -44,6 +45,14 @@ pub(crate) struct ConesWords<'a> {
     pub probes: &'a str,
 }
 
+/// The words of a `both` command.
+#[derive(Clone, Copy)]
+pub(crate) struct BothWords<'a> {
+    pub mask: MaskWords<'a>,
+    pub stimulus: &'a str,
+    pub seed: [u8; 32],
+}
+
 /// A command.
 #[derive(Clone, Copy)]
 pub(crate) enum Command<'a> {
@@ -52,6 +61,7 @@ pub(crate) enum Command<'a> {
     Report(ReportWords<'a>),
     Audit(AuditWords<'a>),
     Cones(ConesWords<'a>),
+    Both(BothWords<'a>),
 }
 
 // The order that a word spells, from 1 to 7.
@@ -181,6 +191,50 @@ fn read_sim<'a>(
     }))
 }
 
+// The `both` command of those of a `mask` command, a stimulus and a seed.
+fn read_both<'a>(mask: Option<MaskWords<'a>>, stimulus: &'a str, seed: &str) -> Option<Command<'a>>
+    ensures { option_map spec.request_of result ≡ spec.comparing_request (option_map spec.mask_of mask.entry) stimulus.now seed.now }
+{
+    if stimulus.is_empty() {
+        return None;
+    }
+    match mask {
+        Some(mask) => match read_seed(seed) {
+            Some(seed) => Some(Command::Both(BothWords {
+                mask,
+                stimulus,
+                seed,
+            })),
+            None => None,
+        },
+        None => None,
+    }
+}
+
+// The `both` command of nine words.
+fn read_comparing<'a>(
+    command: &str,
+    library: &'a str,
+    net: &'a str,
+    order: &str,
+    mode: &str,
+    balance: &str,
+    out: &'a str,
+    stimulus: &'a str,
+    seed: &str,
+) -> Option<Command<'a>>
+    ensures { option_map spec.request_of result ≡ spec.command_of (command.now ∷ library.now ∷ net.now ∷ order.now ∷ mode.now ∷ balance.now ∷ out.now ∷ stimulus.now ∷ seed.now ∷ []) }
+{
+    if !are_names("both", command, library, net, out) {
+        return None;
+    }
+    read_both(
+        read_parts(library, net, order, mode, balance, out),
+        stimulus,
+        seed,
+    )
+}
+
 /// The command that the words are, None where they are none.
 pub(crate) fn read_command(words: &[String]) -> Option<Command<'_>>
     ensures { option_map spec.request_of result ≡ spec.command_of (map string_bytes words.now) }
@@ -202,6 +256,27 @@ pub(crate) fn read_command(words: &[String]) -> Option<Command<'_>>
                 out,
             )
         }
+        [
+            command,
+            library,
+            net,
+            order,
+            mode,
+            balance,
+            out,
+            stimulus,
+            seed,
+        ] => read_comparing(
+            command.as_str(),
+            library.as_str(),
+            net.as_str(),
+            order.as_str(),
+            mode.as_str(),
+            balance.as_str(),
+            out.as_str(),
+            stimulus.as_str(),
+            seed.as_str(),
+        ),
         [command, first, second, third] => {
             let first = first.as_str();
             let third = third.as_str();

@@ -1,5 +1,5 @@
 -- How a reason for a refusal becomes another.
-use Rattle.std.proofs.Common.{◌≡◌, ◌≤◌, ◌⊎◌, ℕ, Bool, List, inl, inr, Result, Ok, Err, OnOk, IfOk, IfErr, ap, sym, ◌∙◌, subst, string_bytes}
+use Rattle.std.proofs.Common.{◌≡◌, ◌≤◌, ◌+◌, ◌⊎◌, ℕ, Bool, List, inl, inr, Result, Ok, Err, IfErr, ap, ap₂, sym, ◌∙◌, subst}
 use Rattle.agm_net.specs.Plain.{PlainNet}
 use Rattle.agm_net.specs.declared.mark.Mark.{Mark}
 use Rattle.cell_library.specs.Judged.{PlainCell}
@@ -19,10 +19,12 @@ use Rattle.agema_answers.specs.declared.refusal.Refusal.TheVariants.{NetSyntax, 
 use Rattle.agema_texts.specs.Original.{IsRead, IsOriginal, EndsBy}
 use Rattle.secrecy_spread.specs.Leaks.{NoneLeaks}
 use Rattle.agema_texts.specs.Marked.{IsMarked, IsUnmarked, IsLeaking, IsOverSize, IsTooWide, IsTooBig, annotation_ended}
+use Rattle.share_wiring.specs.ReportOf.{streams_of}
 use Rattle.share_wiring.specs.Same.{TellsSecrets}
-use Rattle.agema_texts.specs.Masks.{IsUnmasked, Masks, MasksNet, size_of, size_limit}
+use Rattle.share_wiring.specs.declared.report.Report.{Report}
+use Rattle.agema_texts.specs.Comparing.{IsMade, IsMadeOf}
+use Rattle.agema_texts.specs.Masks.{IsUnmasked, size_of, size_limit}
 use Rattle.agema_texts.specs.Width.{IsNarrow, NaiveCosts}
-use Rattle.agema_texts.specs.declared.masked.Texts.{Texts}
 
 ends_by : (P Q : Refusal → Type 0) → ((r : Refusal) → P r → Q r) → (ended : Ended) → EndsBy P ended → EndsBy Q ended
 ends_by P Q f (Refused r) h = f r h
@@ -113,9 +115,24 @@ breaks_ended rules design net top is annotation.NoClock (inr first) = (top, is, 
 breaks_ended rules design net top is (annotation.ClockUse w) (inl e) = cc
 breaks_ended rules design net top is (annotation.ClockUse w) (inr first) = (top, is, first)
 
--- texts that mask the net of an original mask what bytes give
-pub masks_all : (cells : List PlainCell) (bytes : List ℕ) (order : ℕ) (net : PlainNet) (marks : List Mark) → IsOriginal cells bytes net marks → NoneLeaks net marks → (r : Result Texts Ended)
-    → OnOk r ((size_of net order ≤ size_limit) × IsNarrow net marks order) → IfOk r (λ t. MasksNet net marks order t.net (string_bytes t.report) (string_bytes t.line))
-    → IfOk r (λ t. Masks cells bytes order t.net (string_bytes t.report) (string_bytes t.line))
-masks_all cells bytes order net marks is none (Ok t) fits masks = record { original = net; marks = marks; is_original = is; no_leak = none; fits = fits.0; narrow = fits.1; masks = masks }
-masks_all cells bytes order net marks is none (Err e) fits masks = tt
+-- what is made of the net of an original is made of what bytes give
+pub made_all : (cells : List PlainCell) (bytes : List ℕ) (order : ℕ) (net : PlainNet) (marks : List Mark) (made : PlainNet) (report : Report) (out : List ℕ) → IsOriginal cells bytes net marks → NoneLeaks net marks
+    → (size_of net order ≤ size_limit) × IsNarrow net marks order → IsMadeOf net marks order made report out → IsMade cells bytes order net made report out
+made_all cells bytes order net marks made report out is none fits of =
+    let reported = of.masks.reported in
+    let same = of.report_is in
+    let T : Report → Type 0 = λ r. (r.period ≡ r.latency + 1) × (r.streams ≡ streams_of r.balance r.period) in
+    let turns : T of.masks.report = (
+      reported.period_is ∙ ap (λ l. l + 1) (sym reported.latency_is),
+      reported.streams_are ∙ ap₂ streams_of (sym reported.balance_is) (sym reported.period_is),
+    ) in
+    let runs = subst T same turns in
+    record {
+      marks = marks;
+      is_original = is;
+      no_leak = none;
+      fits = fits.0;
+      narrow = fits.1;
+      made_of = of;
+      runs = record { no_loop = is.read.no_loop; made_no_loop = of.no_loop; period = runs.0; turns = runs.1 };
+    }

@@ -10,3 +10,5 @@ mod Readings
 mod Costs
 mod Audits
 mod Probes
+mod AnyOrder
+pub mod Comparings

@@ -1,5 +1,5 @@
 -- What bytes determine.
-use Rattle.std.proofs.Common.{◌≡◌, ◌≤◌, ◌∙◌, ℕ, List, [], ◌∷◌, map, ap, sym, subst, subst₂, inl, inr, arith, Err}
+use Rattle.std.proofs.Common.{◌≡◌, ◌≤◌, ◌∙◌, ℕ, List, [], ◌∷◌, None, map, ap, sym, subst, subst₂, inl, inr, arith, Err}
 use Rattle.agm_net.specs.Plain.{PlainNet}
 use Rattle.agm_net.specs.declared.mark.Mark.{Mark}
 use Rattle.agm_net.specs.Loop.{IsLoop}
@@ -100,5 +100,5 @@ clocked_not_refused once cells bytes net r (design, read, keeps) unread = read_n
 pub driven_not_refused : SpellsOnce → WritesOnce → (cells : List PlainCell) (bytes stimulus : List ℕ) (r : Refusal) → CanSim cells bytes stimulus → IsUndriven cells bytes stimulus r → Prim.⊥
 driven_not_refused once written cells bytes stimulus r (net, streams, clocked, has) (other, runs, bad) =
     let same : other ≡ net = same_clocked once cells bytes other net runs clocked in
-    let B : PlainNet → Type 0 = λ n. IsBadStimulus n stimulus r in
-    one_stimulus written net stimulus streams r has (subst B same bad)
+    let B : PlainNet → Type 0 = λ n. IsBadStimulus n None stimulus r in
+    one_stimulus written net None stimulus streams r has (subst B same bad)

@@ -19,25 +19,25 @@ use Rattle.agema_texts.specs.Sims.{HasStreams, IsBadStimulus}
 abbrev pub WritesOnce : Type 0
 WritesOnce = (a b : List StreamText) → stimulus_data a ≡ stimulus_data b → a ≡ b
 
-abbrev Clash : PlainNet → Option Data → List Stream → StimulusCause → ℕ → ℕ → Type 0
-Clash net json streams cause stream step = Answers net None json (Ok (record { streams = streams })) → Answers net None json (Err (Bad cause stream step)) → Prim.⊥
+abbrev Clash : PlainNet → Option ℕ → Option Data → List Stream → StimulusCause → ℕ → ℕ → Type 0
+Clash net limit json streams cause stream step = Answers net limit json (Ok (record { streams = streams })) → Answers net limit json (Err (Bad cause stream step)) → Prim.⊥
 
 -- streams and a cause
-both_ways : WritesOnce → (net : PlainNet) (json : Option Data) (streams : List Stream) (cause : StimulusCause) (stream step : ℕ) → Clash net json streams cause stream step
-both_ways once net None streams cause stream step (inl a) bad = cc
-both_ways once net None streams cause stream step (inr a) bad = cc
-both_ways once net (Some d) streams cause stream step (inl (inl a)) bad = cc
-both_ways once net (Some d) streams cause stream step (inl (inr a)) bad = let e = a.0 in cc
-both_ways once net (Some d) streams cause stream step (inr (texts, is, passes)) (inl (inl b)) = cc
-both_ways once net (Some d) streams cause stream step (inr (texts, is, passes)) (inl (inr b)) = absurd (b.1 texts is)
-both_ways once net (Some d) streams cause stream step (inr (texts, is, passes)) (inr (others, are, inl b)) = cc
-both_ways once net (Some d) streams cause stream step (inr (texts, is, passes)) (inr (others, are, inr b)) =
+both_ways : WritesOnce → (net : PlainNet) (limit : Option ℕ) (json : Option Data) (streams : List Stream) (cause : StimulusCause) (stream step : ℕ) → Clash net limit json streams cause stream step
+both_ways once net limit None streams cause stream step (inl a) bad = cc
+both_ways once net limit None streams cause stream step (inr a) bad = cc
+both_ways once net limit (Some d) streams cause stream step (inl (inl a)) bad = cc
+both_ways once net limit (Some d) streams cause stream step (inl (inr a)) bad = let e = a.0 in cc
+both_ways once net limit (Some d) streams cause stream step (inr (texts, is, passes)) (inl (inl b)) = cc
+both_ways once net limit (Some d) streams cause stream step (inr (texts, is, passes)) (inl (inr b)) = absurd (b.1 texts is)
+both_ways once net limit (Some d) streams cause stream step (inr (texts, is, passes)) (inr (others, are, inl b)) = cc
+both_ways once net limit (Some d) streams cause stream step (inr (texts, is, passes)) (inr (others, are, inr b)) =
     let same : texts ≡ others = once texts others (sym is ∙ are) in
-    let F : List StreamText → Option StimulusFault = λ ts. first_fault (all_asked (length net.registers) (inputs_of net) None ts) in
+    let F : List StreamText → Option StimulusFault = λ ts. first_fault (all_asked (length net.registers) (inputs_of net) limit ts) in
     let none = passes.0 in
     let moved : F texts ≡ F others = ap F same in
     cc
 
-pub one_stimulus : WritesOnce → (net : PlainNet) (text : List ℕ) (streams : List Stream) (refusal : Refusal) → HasStreams net text streams → IsBadStimulus net text refusal → Prim.⊥
-one_stimulus once net text streams (BadStimulus cause stream step) (short, read) (brief, bad) = both_ways once net (json_of text) streams cause stream step read bad
-one_stimulus once net text streams _ read bad = bad
+pub one_stimulus : WritesOnce → (net : PlainNet) (limit : Option ℕ) (text : List ℕ) (streams : List Stream) (refusal : Refusal) → HasStreams net limit text streams → IsBadStimulus net limit text refusal → Prim.⊥
+one_stimulus once net limit text streams (BadStimulus cause stream step) (short, read) (brief, bad) = both_ways once net limit (json_of text) streams cause stream step read bad
+one_stimulus once net limit text streams _ read bad = bad

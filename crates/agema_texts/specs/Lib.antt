@@ -9,3 +9,4 @@ pub mod Sims
 pub mod Reported
 pub mod Auditing
 pub mod Probing
+pub mod Comparing

@@ -6,6 +6,7 @@ ghost use Rattle.stimulus.specs.declared.stimuli.Stream as stream_type;
 ghost use Rattle.agema_answers.specs.declared.refusal.Refusal as refusal_type;
 ghost use Rattle.agema_texts.specs.Original.{IsOriginal, IsUnread, BreaksRead, length_limit};
 ghost use Rattle.agema_texts.specs.Auditing.{Audits, CanAudit, IsUnaudited};
+ghost use Rattle.agema_texts.specs.Comparing.{CanCompare, IsUncompared};
 ghost use Rattle.agema_texts.specs.Masks.{CanMask, IsUnmasked, Masks};
 ghost use Rattle.agema_texts.specs.Probing.{CanProbe, Cones, IsUnprobed};
 ghost use Rattle.agema_texts.specs.Reported.{CanReport, IsBadReport};
@@ -30,6 +31,15 @@ pub fn one_simulation()
     ensures net { (cells : List PlainCell) (bytes : List ℕ) (m n : PlainNet) → IsClocked cells bytes m → IsClocked cells bytes n → m ≡ n }
     ensures clocked { (cells : List PlainCell) (bytes : List ℕ) (net : PlainNet) (refusal : refusal_type.Refusal) → IsClocked cells bytes net → IsUnclocked cells bytes refusal → ⊥ }
     ensures driven { (cells : List PlainCell) (bytes stimulus : List ℕ) (refusal : refusal_type.Refusal) → CanSim cells bytes stimulus → IsUndriven cells bytes stimulus refusal → ⊥ }
+{
+    one_design();
+    texts_are_one();
+}
+
+/// A law: over given cells the bytes of a netlist and a text of a stimulus determine whether they are run side by side. What is, is not refused.
+pub fn one_comparison()
+    ensures { (cells : List PlainCell) (bytes : List ℕ) (order : ℕ) (stimulus : List ℕ) (refusal : refusal_type.Refusal) →
+        CanCompare cells bytes order stimulus → IsUncompared cells bytes order stimulus refusal → ⊥ }
 {
     one_design();
     texts_are_one();

@@ -2,6 +2,7 @@
 #![tactic(auto)]
 
 mod auditing;
+mod comparing;
 mod laws;
 mod leaks;
 mod line;
@@ -16,8 +17,9 @@ mod size;
 mod width;
 
 pub use auditing::audited;
-pub use laws::{one_audit, one_original, one_probing, one_reading, one_simulation};
-pub use masked::{Texts, masked_texts};
+pub use comparing::compared;
+pub use laws::{one_audit, one_comparison, one_original, one_probing, one_reading, one_simulation};
+pub use masked::{MaskedOriginal, Texts, masked_original, masked_texts};
 pub use probing::{Network, probed, read_network};
 pub use reporting::reported;
 pub use simulation::{clocked_net, simulated};

@@ -1,13 +1,18 @@
 ghost use Rattle.std.specs.Prelude.{◌≡◌, ◌≤◌, OnOk, IfOk, IfErr, length, map, string_bytes};
+ghost use Rattle.std.specs.List.{AllByRecursion};
 ghost use Rattle.agm_net.specs.View.{plain_of};
+ghost use Rattle.agm_net.specs.Writable.{IsWritable};
 ghost use Rattle.cell_library.specs.Spelled.{cell_of};
 ghost use Rattle.verilog_reader.specs.View.{design_view};
 ghost use Rattle.annotations.specs.Rules.{annotation_rules};
 ghost use Rattle.logic_graph.specs.GraphOf.{IsGraphOf};
 ghost use Rattle.agema_texts.specs.Original.{EndsBy, length_limit};
-ghost use Rattle.agema_texts.specs.Masks.{Masks, MasksNet, IsUnmasked, size_of, size_limit};
+ghost use Rattle.agema_texts.specs.Comparing.{IsMade, IsMadeOf};
+ghost use Rattle.agema_texts.specs.Line.{mask_line as mask_line_of};
+ghost use Rattle.agema_texts.specs.Masks.{Masks, IsUnmasked, size_of, size_limit};
 ghost use Rattle.agema_texts.specs.Width.{IsNarrow, width_of, width_limit};
 ghost use Rattle.level_plan.specs.PlanOf.{PlanOf};
+ghost use Rattle.masked_writer.specs.Report.{report_text as report_text_of};
 ghost use Rattle.secrecy_spread.specs.Mode.{IsMadeBy};
 ghost use Rattle.secrecy_spread.specs.Naive.{NaiveGadgets, NaiveDepth};
 ghost use Rattle.secrecy_spread.specs.SecretsOf.{SecretsOf};
@@ -31,7 +36,7 @@ use logic_graph::Graph;
 use masked_writer::report_text;
 use pipeline_balance::pipelined;
 use secrecy_spread::Secrets;
-use share_wiring::{Mode, renumbered_is_same};
+use share_wiring::{Masked, Mode, renumbered_is_same};
 use std::alloc::Global;
 use whole_networks::{
     named_networks_are_secure, renumbered_has_gadgets, renumbered_is_net, renumbered_is_network,
@@ -43,6 +48,21 @@ pub struct Texts {
     pub net: Name,
     pub report: String,
     pub line: String,
+}
+
+/// An original with its masked net, and the text that is written of that.
+#[derive(Debug, Drop)]
+pub struct MaskedOriginal {
+    pub original: Net,
+    pub masked: Masked,
+    pub out: Name,
+}
+
+// A masked net, and the text that is written of it.
+#[derive(Debug, Drop)]
+struct Made {
+    masked: Masked,
+    out: Name,
 }
 
 // The marks of the ports of a net that was read.
@@ -97,17 +117,17 @@ fn planned_within(
     Ok(planned)
 }
 
-// The texts for a net.
-fn texts_of(
+// The masked net of an original, and the text that is written of it.
+fn made_of(
     alloc: Global,
     read: &Read,
     marks: &Marks,
     secrets: &Secrets,
     planned: &Planned,
     order: u32,
-) -> Result<Texts, Memory>
+) -> Result<Made, Memory>
     requires original { IsMaskable (plain_of read.now.net) read.now.graph marks.now.kinds secrets.now planned.now.xan planned.now.plan order }
-    ensures { IfOk result (λ t. MasksNet (plain_of read.now.net) marks.now.kinds order t.net (string_bytes t.report) (string_bytes t.line)) }
+    ensures { IfOk result (λ m. IsMadeOf (plain_of read.now.net) marks.now.kinds order (plain_of m.masked.net) m.masked.report m.out) }
 {
     renumbered_is_same();
     renumbered_is_net();
@@ -125,10 +145,56 @@ fn texts_of(
         Mode::Naive,
         order,
     )?;
-    let net = write_net(alloc, &masked.net)?;
-    let report = report_text(alloc, &masked.report)?;
-    let line = mask_line(alloc, &masked.report)?;
-    Ok(Texts { net, report, line })
+    let out = write_net(alloc, &masked.net)?;
+    Ok(Made { masked, out })
+}
+
+/// The masked net of the original that a netlist gives, over the cells of a library.
+///
+/// # Errors
+///
+/// `Refused` where the netlist isn't masked, and `Memory` where memory runs out.
+pub fn masked_original(
+    alloc: Global,
+    library: &Library,
+    bytes: &[u8],
+    order: u32,
+) -> Result<MaskedOriginal, Ended>
+    requires short { length bytes.now ≤ length_limit }
+    requires first { 1 ≤ order }
+    requires last { order ≤ 7 }
+    ensures ok { IfOk result (λ m. IsMade (map cell_of library.now.cells) bytes.now order (plain_of m.original) (plain_of m.masked.net) m.masked.report m.out) }
+    ensures err { IfErr result (EndsBy (IsUnmasked (map cell_of library.now.cells) bytes.now order)) }
+{
+    bound_ports_are_named();
+    let read = read_net(alloc, library, bytes)?;
+    let marks = marks_of(alloc, &read)?;
+    let secrets = secrets_of(alloc, &read.net, &read.graph, &marks)?;
+    let planned = planned_within(alloc, &read, &marks, &secrets, order)?;
+    match made_of(alloc, &read, &marks, &secrets, &planned, order) {
+        Ok(made) => Ok(MaskedOriginal {
+            original: read.net,
+            masked: made.masked,
+            out: made.out,
+        }),
+        Err(_) => Err(Ended::Memory),
+    }
+}
+
+// The texts of a masked net.
+fn texts_of(alloc: Global, made: MaskedOriginal) -> Result<Texts, Memory>
+    requires { AllByRecursion IsWritable made.masked.report.ports }
+    ensures net { IfOk result (λ t. t.net ≡ made.out) }
+    ensures report { IfOk result (λ t. string_bytes t.report ≡ report_text_of made.masked.report) }
+    ensures line { IfOk result (λ t. string_bytes t.line ≡ mask_line_of made.masked.report) }
+{
+    let report = report_text(alloc, &made.masked.report)?;
+    let line = mask_line(alloc, &made.masked.report)?;
+    Ok(Texts {
+        net: made.out,
+        report,
+        line,
+    })
 }
 
 /// The texts for a netlist, over the cells of a library.
@@ -148,12 +214,8 @@ pub fn masked_texts(
     ensures ok { IfOk result (λ t. Masks (map cell_of library.now.cells) bytes.now order t.net (string_bytes t.report) (string_bytes t.line)) }
     ensures err { IfErr result (EndsBy (IsUnmasked (map cell_of library.now.cells) bytes.now order)) }
 {
-    bound_ports_are_named();
-    let read = read_net(alloc, library, bytes)?;
-    let marks = marks_of(alloc, &read)?;
-    let secrets = secrets_of(alloc, &read.net, &read.graph, &marks)?;
-    let planned = planned_within(alloc, &read, &marks, &secrets, order)?;
-    match texts_of(alloc, &read, &marks, &secrets, &planned, order) {
+    let made = masked_original(alloc, library, bytes, order)?;
+    match texts_of(alloc, made) {
         Ok(texts) => Ok(texts),
         Err(_) => Err(Ended::Memory),
     }

@@ -48,14 +48,19 @@ pub fn clocked_net(alloc: Global, library: &Library, bytes: &[u8]) -> Result<Net
     Ok(read.net)
 }
 
-// The stimulus of a text.
-fn stimulus_of(alloc: Global, net: &Net, text: &[u8]) -> Result<Stimulus, Ended>
+/// The stimulus of a text, of so many streams at the most.
+pub(crate) fn stimulus_of(
+    alloc: Global,
+    net: &Net,
+    limit: Option<usize>,
+    text: &[u8],
+) -> Result<Stimulus, Ended>
     requires { length text.now ≤ length_limit }
-    ensures ok { IfOk result (λ s. HasStreams (plain_of net.now) text.now s.streams) }
-    ensures fits { IfOk result (λ s. Fits (plain_of net.now) None s.streams) }
-    ensures err { IfErr result (EndsBy (IsBadStimulus (plain_of net.now) text.now)) }
+    ensures ok { IfOk result (λ s. HasStreams (plain_of net.now) limit text.now s.streams) }
+    ensures fits { IfOk result (λ s. Fits (plain_of net.now) limit s.streams) }
+    ensures err { IfErr result (EndsBy (IsBadStimulus (plain_of net.now) limit text.now)) }
 {
-    match read_stimulus(alloc, text, net, net.clock, None) {
+    match read_stimulus(alloc, text, net, net.clock, limit) {
         Ok(stimulus) => Ok(stimulus),
         Err(
             StimulusFault::Bad {
@@ -94,8 +99,8 @@ pub fn simulated(alloc: Global, net: &Net, text: &[u8]) -> Result<Name, Ended>
     requires no_loop { HasNoLoop (plain_of net.now) }
     requires short { length text.now ≤ length_limit }
     ensures ok { IfOk result (IsSimulated (plain_of net.now) text.now) }
-    ensures err { IfErr result (EndsBy (IsBadStimulus (plain_of net.now) text.now)) }
+    ensures err { IfErr result (EndsBy (IsBadStimulus (plain_of net.now) None text.now)) }
 {
-    let stimulus = stimulus_of(alloc, net, text)?;
+    let stimulus = stimulus_of(alloc, net, None, text)?;
     text_or_memory(alloc, net, &stimulus)
 }

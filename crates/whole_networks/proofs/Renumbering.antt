@@ -112,7 +112,7 @@ module _ (net other : PlainNet) (r : Renumbered net other) where
       ap (λ ps. flat_map (λ p. p.bits) (filter test ps)) data_are
       ∙ (ap (λ ps. flat_map (λ p. p.bits) ps) (chosen_there r.there test same (data_ports net)) ∙ bits_there r.there (filter test (data_ports net)))
 
-  inputs_are : input_bits other ≡ map r.there (input_bits net)
+  pub inputs_are : input_bits other ≡ map r.there (input_bits net)
   inputs_are = chosen_bits is_input (λ p. refl)
 
   random_are : random_bits_of other ≡ map r.there (random_bits_of net)

@@ -56,4 +56,4 @@ returns-in-Some-clause-complete g c = λ m is.
     let seen : Request → Found = λ m. found (g.H.Shelf.tells c.args.shelf.now) (g.H.Shelf.sound c.args.shelf.now) (g.K.Sink.sound c.args.out.now) (g.H.Shelf.holds c.args.shelf.now) in
     let P : Request → Type 0 = λ m. IsComplete m (seen m) before now c.run_command.result in
     let first = request_of c.in-Some.command in
-    subst P same (completes first (seen first) before now c.run_command.result c.one_library.ensures c.one_original.ensures.masked (runs_once c.one_simulation.ensures.net c.one_simulation.ensures.clocked c.one_simulation.ensures.driven) c.one_reading.ensures c.one_audit.ensures.passed c.one_probing.ensures.passed (g.met.H.Shelf.sound_tells c.args.shelf.now) c.run_command.ensures.cause))
+    subst P same (completes first (seen first) before now c.run_command.result c.one_library.ensures c.one_original.ensures.masked (runs_once c.one_simulation.ensures.net c.one_simulation.ensures.clocked c.one_simulation.ensures.driven) c.one_reading.ensures c.one_audit.ensures.passed c.one_probing.ensures.passed c.one_comparison.ensures (g.met.H.Shelf.sound_tells c.args.shelf.now) c.run_command.ensures.cause))

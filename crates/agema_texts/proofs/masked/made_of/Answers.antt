@@ -1,10 +1,9 @@
-use Rattle.std.proofs.Common.{ℕ, string_bytes, subst}
+use Rattle.std.proofs.Common.{ℕ, subst}
 use Rattle.agm_net.specs.Network.{HasGadgets}
 use Rattle.agm_net.specs.View.{plain_of}
 use Rattle.agema_texts.proofs.Costs.{costs_of, width_parts}
-use Rattle.agema_texts.proofs.PortNames.{shared_names}
-use Rattle.agema_texts.proofs.Written.{masks_net}
-use Rattle.agema_texts.proofs.masked.texts_of.Goals as goal
+use Rattle.agema_texts.proofs.Written.{made_net}
+use Rattle.agema_texts.proofs.masked.made_of.Goals as goal
 
 pub pipelined-requires : goal.pipelined-requires
 pipelined-requires c =
@@ -27,9 +26,6 @@ pipelined-requires c =
       hidden = widths.2;
     }
 
-pub report_text-requires : goal.report_text-requires
-report_text-requires c = shared_names c.in_ok-masked.ensures.report.ports_are c.requires.original.names.written
-
 pub returns : goal.returns
 returns c =
     let net = plain_of c.args.read.now.net in
@@ -38,9 +34,9 @@ returns c =
     let plan = c.args.planned.now.plan in
     let marks = c.args.marks.now.kinds in
     let N : ℕ → Type 0 = λ n. HasGadgets (plain_of c.in_ok-masked.masked.net) c.args.order n in
-    masks_net net marks c.args.order c.in_ok-net.net (string_bytes c.in_ok-report.report) (string_bytes c.in_ok-line.line)
+    made_net net marks c.args.order c.in_ok-out.out
     (plain_of c.in_ok-masked.masked.net) c.in_ok-masked.masked.report plan.gadgets plan.depth c.renumbered_is_same.ensures
     c.renumbered_is_net.ensures c.renumbered_is_network.ensures c.renumbered_has_gadgets.ensures c.named_networks_are_secure.ensures known.names c.in_ok-masked.masked.net.well_formed
     masked.network (subst N masked.report.gadgets_are masked.gadgets) known.last
     (costs_of net c.args.read.now.graph marks c.args.secrets.now c.args.planned.now.xan plan known.is_graph known.are_secrets known.is_made known.is_planned)
-    masked.report masked.same c.in_ok-net.ensures c.in_ok-report.ensures.exact c.in_ok-line.ensures
+    masked.report masked.same c.in_ok-out.ensures
